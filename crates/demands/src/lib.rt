@@ -1,0 +1,1 @@
+// Theorems only: the marked examples, and the promises over any sequence of calls.

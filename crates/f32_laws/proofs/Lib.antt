@@ -1,0 +1,13 @@
+pub mod Tests
+pub mod Magnitude
+pub mod Keys
+pub mod Order
+pub mod Larger
+pub mod Rounding
+pub mod Sums
+pub mod Limits
+pub mod Exact64
+pub mod Index64
+pub mod Is64
+pub mod Tolerance
+pub mod Wide

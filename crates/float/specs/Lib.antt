@@ -1,0 +1,10 @@
+pub mod Numbers
+pub mod Refuse
+pub mod Bands
+pub mod Page
+pub mod Clear
+pub mod Fit
+pub mod Search
+pub mod Place
+pub mod Slot
+pub mod Calculator
