@@ -1,0 +1,182 @@
+/* A page laid out from C: builds a tape in memory, runs it, and reads the answer lines back into numbers. */
+#include <inttypes.h>
+#include <stdio.h>
+#include <stdlib.h>
+#include <string.h>
+
+#include "bulameki.h"
+
+struct tape {
+    uint8_t bytes[512];
+    size_t len;
+};
+
+static void put_u8(struct tape *tape, unsigned value)
+{
+    if (tape->len == sizeof tape->bytes) {
+        fputs("page: the tape is full\n", stderr);
+        exit(1);
+    }
+    tape->bytes[tape->len++] = (uint8_t)value;
+}
+
+static void put_u16(struct tape *tape, unsigned value)
+{
+    put_u8(tape, value & 0xFF);
+    put_u8(tape, value >> 8);
+}
+
+static void put_f32(struct tape *tape, float value)
+{
+    uint32_t bits;
+    memcpy(&bits, &value, sizeof bits);
+    put_u16(tape, bits & 0xFFFF);
+    put_u16(tape, bits >> 16);
+}
+
+static void page_width(struct tape *tape, float width)
+{
+    put_u8(tape, BULAMEKI_WIDTH);
+    put_f32(tape, width);
+}
+
+/* The container's insets are 0, as for a box that stands directly on the page. */
+static void box(struct tape *tape, enum bulameki_side side, float width, float height, float min_y,
+                enum bulameki_clear clear)
+{
+    put_u8(tape, BULAMEKI_BOX);
+    put_u8(tape, side);
+    put_u8(tape, clear);
+    put_f32(tape, width);
+    put_f32(tape, height);
+    put_f32(tape, min_y);
+    put_f32(tape, 0);
+    put_f32(tape, 0);
+}
+
+static void content(struct tape *tape, float min_y, float inset, enum bulameki_clear clear)
+{
+    put_u8(tape, BULAMEKI_CONTENT);
+    put_f32(tape, min_y);
+    put_f32(tape, inset);
+    put_f32(tape, inset);
+    put_u8(tape, clear);
+    put_u16(tape, BULAMEKI_AFTER_NONE);
+}
+
+static void bfc(struct tape *tape, float min_y, float margin, enum bulameki_direction direction)
+{
+    put_u8(tape, BULAMEKI_BFC);
+    put_f32(tape, min_y);
+    put_f32(tape, 0);
+    put_f32(tape, 0);
+    put_f32(tape, margin);
+    put_f32(tape, margin);
+    put_u8(tape, direction);
+    put_u8(tape, BULAMEKI_CLEAR_NONE);
+    put_u16(tape, BULAMEKI_AFTER_NONE);
+}
+
+static void calculator(struct tape *tape, enum bulameki_mode mode, float available)
+{
+    put_u8(tape, BULAMEKI_CALC);
+    put_u8(tape, mode);
+    put_f32(tape, available);
+}
+
+static void add(struct tape *tape, float width, enum bulameki_side side)
+{
+    put_u8(tape, BULAMEKI_ADD);
+    put_f32(tape, width);
+    put_u8(tape, side);
+    put_u8(tape, BULAMEKI_CLEAR_NONE);
+}
+
+static float of_bits(uint32_t bits)
+{
+    float value;
+    memcpy(&value, &bits, sizeof value);
+    return value;
+}
+
+static const char *const refusals[] = {
+    [BULAMEKI_UNKNOWN_CODE] = "unknown code",
+    [BULAMEKI_NOT_FINITE] = "not finite",
+    [BULAMEKI_OUTSIDE_LIMITS] = "outside its limits",
+    [BULAMEKI_WIDTH_AFTER_BOX] = "width set after a box",
+    [BULAMEKI_TOO_MANY_BOXES] = "too many boxes",
+    [BULAMEKI_TOO_FAR] = "too far",
+    [BULAMEKI_TOO_MANY_BANDS] = "too many bands",
+    [BULAMEKI_NO_CALCULATOR] = "no calculator",
+};
+
+/* Prints a line as it came and, where it has floats or a refusal, what they say. */
+static void print_line(const char *line)
+{
+    uint32_t a, b, c, d;
+    unsigned n;
+    char band[8], said[128] = "";
+    if (sscanf(line, "P %" SCNx32 " %" SCNx32 " %u", &a, &b, &n) == 3)
+        snprintf(said, sizeof said, "at %g, %g, steps %u", of_bits(a), of_bits(b), n);
+    else if (sscanf(line, "C %7s %" SCNx32 " %" SCNx32 " %" SCNx32, band, &a, &b, &c) == 4)
+        snprintf(said, sizeof said, "band %s, at %g, %g, width %g", band, of_bits(a), of_bits(b), of_bits(c));
+    else if (sscanf(line, "B %7s %" SCNx32 " %" SCNx32 " %" SCNx32 " %" SCNx32, band, &a, &b, &c, &d) == 5)
+        snprintf(said, sizeof said, "band %s, at %g, %g, border %g, stretch %g", band, of_bits(a), of_bits(b),
+                 of_bits(c), of_bits(d));
+    else if (sscanf(line, "I %" SCNx32, &a) == 1)
+        snprintf(said, sizeof said, "width %g", of_bits(a));
+    else if (sscanf(line, "R %u", &n) == 1 && n >= 1 && n < sizeof refusals / sizeof *refusals)
+        snprintf(said, sizeof said, "refused, %s", refusals[n]);
+    if (said[0])
+        printf("%-40s %s\n", line, said);
+    else
+        puts(line);
+}
+
+int main(void)
+{
+    struct tape tape = {{0}, 0};
+    uint8_t answers[BULAMEKI_ROOM(sizeof tape.bytes)];
+    int64_t written;
+    size_t at;
+
+    page_width(&tape, 480);
+    box(&tape, BULAMEKI_LEFT, 96, 48, 0, BULAMEKI_CLEAR_NONE);
+    box(&tape, BULAMEKI_RIGHT, 24, 24, 0, BULAMEKI_CLEAR_NONE);
+    box(&tape, BULAMEKI_LEFT, 180, 140.5f, 24, BULAMEKI_CLEAR_LEFT);
+    box(&tape, BULAMEKI_RIGHT, 320, 20, 24, BULAMEKI_CLEAR_NONE);
+    box(&tape, BULAMEKI_RIGHT, 24, 24, 70000, BULAMEKI_CLEAR_NONE);
+    content(&tape, 60, 8, BULAMEKI_CLEAR_NONE);
+    content(&tape, 60, 8, BULAMEKI_CLEAR_BOTH);
+    bfc(&tape, 60, 6, BULAMEKI_RTL);
+    calculator(&tape, BULAMEKI_DEFINITE, 200);
+    add(&tape, 96, BULAMEKI_LEFT);
+    add(&tape, 24, BULAMEKI_RIGHT);
+    put_u8(&tape, BULAMEKI_RESULT);
+
+    written = bulameki_run_tape(tape.bytes, tape.len, answers, sizeof answers);
+    if (written < 0) {
+        fprintf(stderr, "page: refused with %" PRId64 "\n", written);
+        return 1;
+    }
+    printf("a tape of %zu bytes gives %" PRId64 " bytes of lines\n", tape.len, written);
+    for (at = 0; at < (size_t)written;) {
+        char *line = (char *)answers + at;
+        char *end = memchr(line, '\n', (size_t)written - at);
+        *end = '\0';
+        print_line(line);
+        at += (size_t)(end - line) + 1;
+    }
+
+    /* One byte too little: nothing at all is written. */
+    memset(answers, 0xEE, sizeof answers);
+    printf("one byte less of room: %" PRId64, bulameki_run_tape(tape.bytes, tape.len, answers, (size_t)written - 1));
+    for (at = 0; at < sizeof answers && answers[at] == 0xEE; at++)
+        ;
+    printf(", %s\n", at == sizeof answers ? "nothing written" : "something written");
+
+    /* Where a length is 0 its pointer may be null. */
+    printf("no tape, no room: %" PRId64 "\n", bulameki_run_tape(NULL, 0, NULL, 0));
+    printf("a tape, no room: %" PRId64 "\n", bulameki_run_tape(tape.bytes, tape.len, NULL, 0));
+    return 0;
+}

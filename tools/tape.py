@@ -1,0 +1,363 @@
+#!/usr/bin/env python3
+"""Tapes of calls as readable text, and answer lines beside their records.
+
+    tape.py make IN.txt OUT.tape     text to tape
+    tape.py text IN.tape             tape to text, on standard output
+    tape.py show IN.tape [LINES]     each record beside its answer line, floats as decimals
+
+IN, OUT and LINES may be - for standard input or output (IN and LINES not both); without LINES, show takes -.
+A bad line is named on standard error as FILE:LINE: what is wrong. The status is then 1 and nothing is written.
+
+The text has one record a line; # begins a comment. What stands in brackets may be left out, in any order.
+
+    new                                        a fresh page, no calculator
+    width N                                    the page's width
+    SIDE WxH [at Y] [insets L R] [clear C]     a box; Y is its min_y
+    content  [at Y] [insets L R] [clear C] [after BAND]
+    bfc      [at Y] [insets L R] [margins L R] [DIRECTION] [clear C] [after BAND]
+    calc definite N | calc min | calc max      a calculator (calc min N stores a number that nothing reads)
+    add SIDE N [clear C]                       a box's width for the calculator
+    result                                     the calculator's result
+    bytes 09 00 FF                             bytes as they are: an unknown kind, a cut body
+
+SIDE is left or right; C none, left, right or both; DIRECTION ltr or rtl. side=7, clear=9 (for the whole of
+"clear C"), direction=5 and mode=4 (for "definite") put any byte there. What is left out is 0, clear none, ltr,
+after none. A number is a decimal, of which the nearest f32 is stored, or -0, inf, -inf, nan, or the bits of the
+f32 as 0x and eight hex digits.
+"""
+import re
+import struct
+import sys
+from collections import namedtuple
+from fractions import Fraction
+
+LONGEST = 65536  # bytes; a longer tape is answered by the one line L
+NONE = 65535  # "after" on the tape when there is none
+SIGN, INFINITY, QUIET_NAN = 0x80000000, 0x7F800000, 0x7FC00000  # bits of f32
+NUMBER = r'0x[0-9A-Fa-f]{8}|nan|-?inf|-?(?:[0-9]+(?:\.[0-9]*)?|\.[0-9]+)(?:[eE][-+]?[0-9]{1,3})?'
+
+# The words of each code; a word's place is its number.
+CODES = {'side': ('left', 'right'), 'clear': ('none', 'left', 'right', 'both'), 'direction': ('ltr', 'rtl'),
+         'mode': ('definite', 'min', 'max')}
+
+# A part of a line that fills several fields, or one of another name.
+PARTS = {'size': ('width', 'height'), 'at': ('min_y',), 'insets': ('left inset', 'right inset'),
+         'margins': ('left margin', 'right margin')}
+
+# A kind of record: the fields of its body in the tape's order; its text, as a first word, the parts that follow in
+# this order and the parts that may follow in any; its answer line, as a letter and fields.
+Kind = namedtuple('Kind', 'body word fixed free answer')
+KINDS = (
+    Kind((), 'new', (), (), ('N',)),
+    Kind(('width',), 'width', ('width',), (), ('W',)),
+    Kind(('side', 'clear', 'width', 'height', 'min_y', 'left inset', 'right inset'),
+         '', ('side', 'size'), ('at', 'insets', 'clear'), ('P', 'x', 'y', 'steps')),
+    Kind(('min_y', 'left inset', 'right inset', 'clear', 'after'),
+         'content', (), ('at', 'insets', 'clear', 'after'), ('C', 'band', 'x', 'y', 'width')),
+    Kind(('min_y', 'left inset', 'right inset', 'left margin', 'right margin', 'direction', 'clear', 'after'),
+         'bfc', (), ('at', 'insets', 'margins', 'direction', 'clear', 'after'),
+         ('B', 'band', 'x', 'y', 'border', 'stretch')),
+    Kind(('mode', 'number'), 'calc', ('mode',), ('number',), ('S',)),
+    Kind(('width', 'side', 'clear'), 'add', ('side', 'width'), ('clear',), ('A',)),
+    Kind((), 'result', (), (), ('I', 'width')),
+)
+STOP, LONG = len(KINDS), len(KINDS) + 1  # in place of a kind, at an unknown kind or cut body, and for a long tape
+
+MEANINGS = {'N': 'fresh page', 'W': 'width set', 'S': 'calculator started', 'A': 'added',
+            STOP: 'stopped, unknown kind or cut body', LONG: 'over 65,536 bytes'}
+REFUSALS = {1: 'unknown code', 2: 'NaN or infinite', 3: 'outside its limits', 4: 'width set after a box',
+            5: '64 boxes stand', 6: 'beyond 131,072', 7: 'more than 96 bands', 8: 'no calculator started'}
+
+
+class Bad(Exception):
+    """What is wrong with one line."""
+
+
+class BadLines(Exception):
+    """The bad lines of a file: a list of line number and what is wrong."""
+
+
+# Numbers
+
+def nearest(value):
+    """The bits of the f32 nearest to a Fraction of at least 0, ties to even; infinity's where it lies beyond all."""
+    if value == 0:
+        return 0
+    exponent = value.numerator.bit_length() - value.denominator.bit_length()
+    if Fraction(2) ** exponent > value:
+        exponent -= 1
+    exponent = max(exponent, -126)
+    # A mantissa rounded up to 2^24, or a subnormal one up to 2^23, carries into the exponent as it should.
+    return min(((exponent + 126) << 23) + round(value / Fraction(2) ** (exponent - 23)), INFINITY)
+
+
+def number(word):
+    """The f32 bits of a number's text."""
+    if not re.fullmatch(NUMBER, word) or len(word) > 200:
+        raise Bad(f"'{word}' is not a number")
+    if word.startswith('0x'):
+        return int(word, 16)
+    if word == 'nan':
+        return QUIET_NAN
+    minus, size = (SIGN, word[1:]) if word.startswith('-') else (0, word)
+    bits = INFINITY if size == 'inf' else nearest(Fraction(size))
+    if bits == INFINITY and size != 'inf':
+        raise Bad(f"'{word}' is beyond the largest f32")
+    return minus | bits
+
+
+def decimal(bits):
+    """The shortest decimal with these f32 bits, or the bits themselves for a NaN with a payload."""
+    minus, size = '-' if bits & SIGN else '', bits & ~SIGN
+    if size > INFINITY:
+        return 'nan' if bits == QUIET_NAN else f'0x{bits:08X}'
+    if size in (0, INFINITY):
+        return minus + ('inf' if size else '0')
+    value, = struct.unpack('<f', struct.pack('<I', size))
+    # The f32 below a power of two is nearer than the one above: there the nearest decimal of so many digits may
+    # round to another f32 while its neighbour does not.
+    beside = (0,) if size & 0x7FFFFF else (0, 1, -1)
+    for digits in range(9):  # one and up to eight more always do
+        mantissa, exponent = f'{value:.{digits}e}'.split('e')
+        for step in beside:
+            short = f"{int(mantissa.replace('.', '')) + step}e{int(exponent) - digits}"
+            if nearest(Fraction(short)) == size:
+                return minus + repr(float(short)).removesuffix('.0')
+
+
+# Text to tape
+
+def whole(word, most, what):
+    """A whole number from 0 to most."""
+    if not re.fullmatch('[0-9]{1,5}', word) or int(word) > most:
+        raise Bad(f"'{word}' is not {what} from 0 to {most}")
+    return int(word)
+
+
+def value_of(word, field):
+    """The number that a word stores in a field."""
+    if field == 'after':
+        return NONE if word == 'none' else whole(word, NONE, 'a band number')
+    if field not in CODES:
+        return number(word)
+    if word.startswith(field + '='):
+        return whole(word[len(field) + 1:], 255, f'a {field} code')
+    if word not in CODES[field]:
+        raise Bad(f"'{word}' is not a {field}: {', '.join(CODES[field])}, or {field}= and a number")
+    return CODES[field].index(word)
+
+
+def fill(part, words, fields):
+    """Takes one part of a line from its words into its fields."""
+    names = PARTS.get(part, (part,))
+    if part == 'size' and words:
+        both = re.fullmatch(f'({NUMBER})x({NUMBER})', words[0])
+        if not both:
+            raise Bad(f"'{words[0]}' is not a size such as 10x30")
+        words[:1] = both.groups()
+    for name in names:
+        if not words:
+            raise Bad(f'the {part if part == "size" else name} is missing')
+        fields[name] = value_of(words.pop(0), name)
+
+
+def part_of(word, parts):
+    """Which of the parts that may follow begins with a word."""
+    for part in parts:
+        if part == 'number' and re.fullmatch(NUMBER, word) or part == 'direction' and word in CODES[part]:
+            return part
+        if part in CODES and word.startswith(part + '=') or part == word and part not in ('direction', 'number'):
+            return part
+    raise Bad(f"'{word}' does not belong here")
+
+
+def plain(field):
+    """What a field holds when its part is left out."""
+    return NONE if field == 'after' else 0
+
+
+def layout(kind):
+    """The struct format of a kind's body; floats as their bits, so that no NaN changes."""
+    return '<' + ''.join('B' if name in CODES else 'H' if name == 'after' else 'I' for name in KINDS[kind].body)
+
+
+def record(words):
+    """The bytes of one line's words."""
+    if words[0] == 'bytes':
+        if len(words) == 1 or not all(re.fullmatch('[0-9A-Fa-f]{2}', word) for word in words[1:]):
+            raise Bad('bytes is followed by pairs of hex digits')
+        return bytes.fromhex(''.join(words[1:]))
+    first = '' if words[0] in CODES['side'] or words[0].startswith('side=') else words.pop(0)
+    kind = next((kind for kind, rules in enumerate(KINDS) if rules.word == first), None)
+    if kind is None:
+        raise Bad(f"'{first}' is not a record")
+    fields, seen = {}, set()
+    for part in KINDS[kind].fixed:
+        fill(part, words, fields)
+    if fields.get('mode') == CODES['mode'].index('definite'):
+        fill('number', words, fields)
+        seen.add('number')
+    while words:
+        part = part_of(words[0], KINDS[kind].free)
+        if part in seen:
+            raise Bad(f"'{words[0]}' is a second {part}")
+        seen.add(part)
+        if words[0] == part:
+            words.pop(0)
+        fill(part, words, fields)
+    return bytes([kind]) + struct.pack(layout(kind), *(fields.get(name, plain(name)) for name in KINDS[kind].body))
+
+
+def make(source):
+    """The tape of a text. Raises BadLines."""
+    tape, bad = bytearray(), []
+    for row, line in enumerate(source.split('\n'), 1):
+        words = line.split('#')[0].split()
+        try:
+            tape += record(words) if words else b''
+        except Bad as wrong:
+            bad.append((row, str(wrong)))
+    if bad:
+        raise BadLines(bad)
+    return bytes(tape)
+
+
+# Tape to text
+
+def records(tape):
+    """Each record's offset, kind and fields; at an unknown kind or a cut body STOP and all bytes from there."""
+    at = 0
+    while at < len(tape):
+        kind = tape[at]
+        length = struct.calcsize(layout(kind)) if kind < len(KINDS) else len(tape)
+        if at + 1 + length > len(tape):
+            yield at, STOP, tape[at:]
+            return
+        yield at, kind, dict(zip(KINDS[kind].body, struct.unpack_from(layout(kind), tape, at + 1)))
+        at += 1 + length
+
+
+def word_of(value, field):
+    """The word that stores a number in a field."""
+    if field in CODES:
+        return CODES[field][value] if value < len(CODES[field]) else f'{field}={value}'
+    return str(value) if field == 'after' else decimal(value)
+
+
+def raw(data):
+    """Bytes as text."""
+    return 'bytes ' + data.hex(' ').upper()
+
+
+def spelled(kind, fields):
+    """One record as text, without the parts that may be left out."""
+    said = [KINDS[kind].word] if KINDS[kind].word else []
+    for part in KINDS[kind].fixed:
+        said.append('x'.join(word_of(fields[name], name) for name in PARTS.get(part, (part,))))
+    for part in KINDS[kind].free:
+        names = PARTS.get(part, (part,))
+        if all(fields[name] == plain(name) for name in names) and fields.get('mode') != 0:
+            continue
+        words = [word_of(fields[name], name) for name in names]
+        bare = part in ('direction', 'number') or words[0].startswith(part + '=')
+        said += words if bare else [part] + words
+    return ' '.join(said)
+
+
+def text(tape):
+    """The text of a tape: make gives the same bytes back, whatever they are."""
+    lines = []
+    for _, kind, body in records(tape):
+        if kind == STOP:
+            lines += [raw(body[at:at + 32]) for at in range(0, len(body), 32)]
+        else:
+            lines.append(spelled(kind, body))
+    return ''.join(line + '\n' for line in lines)
+
+
+# Answers
+
+def meaning(line, kind, at):
+    """In words, the answer line of the record of this kind at this offset."""
+    if kind in (STOP, LONG):
+        if line != (f'T {at}' if kind == STOP else 'L'):
+            raise Bad(f"'{line}' where the tape {'stops at byte %d' % at if kind == STOP else 'is too long'}")
+        return MEANINGS[kind]
+    refused = re.fullmatch('R ([0-9]{1,2})', line)
+    if refused and int(refused[1]) in REFUSALS:
+        return 'refused, ' + REFUSALS[int(refused[1])]
+    letter, *names = KINDS[kind].answer
+    shapes = {'band': '(-|[0-9]+)', 'steps': '([0-9]+)'}
+    values = re.fullmatch(' '.join([letter] + [shapes.get(name, '([0-9A-F]{8})') for name in names]), line)
+    if not values:
+        raise Bad(f"'{line}' is no answer to a record of kind {kind}")
+    said = [f'{name} {value if name in shapes else decimal(int(value, 16))}'
+            for name, value in zip(names, values.groups())]
+    return MEANINGS.get(letter) or ', '.join(said).replace('band -', 'no band')
+
+
+def show(tape, answers):
+    """Each record's offset and text, and its answer line in letters and in words. Raises BadLines."""
+    lines = answers.split('\n')
+    if lines.pop():
+        raise BadLines([(len(lines) + 1, 'no line feed ends the line')])
+    parts = list(records(tape)) if len(tape) <= LONGEST else [(0, LONG, tape)]
+    rows, bad = [], []
+    for row, ((at, kind, body), line) in enumerate(zip(parts, lines), 1):
+        try:
+            said = meaning(line, kind, at)
+            what = spelled(kind, body) if kind < STOP else raw(body[:4]) + ' ..' * (len(body) > 4)
+            rows.append((str(at), what, line if line[0] in 'RT' else line[0], said))
+        except Bad as wrong:
+            bad.append((row, str(wrong)))
+    if len(lines) != len(parts):
+        bad.append((min(len(lines), len(parts)) + 1, f'{len(lines)} lines for {len(parts)} records'))
+    if bad:
+        raise BadLines(bad)
+    wide = [max((len(row[column]) for row in rows), default=0) for column in range(3)]
+    return ''.join(f'{at:>{wide[0]}}  {what:{wide[1]}}  {line:{wide[2]}}  {said}\n' for at, what, line, said in rows)
+
+
+# The command
+
+def read(name):
+    """All bytes of a file."""
+    with open(0 if name == '-' else name, 'rb', closefd=name != '-') as file:
+        return file.read()
+
+
+def write(name, data):
+    """Writes a file whole."""
+    with open(1 if name == '-' else name, 'wb', closefd=name != '-') as file:
+        file.write(data)
+
+
+def main(command='', *names):
+    """Runs one command and gives its exit status."""
+    if command == 'show' and len(names) == 1:
+        names += ('-',)
+    if (command, len(names)) not in (('make', 2), ('text', 1), ('show', 2)) or (command, names) == ('show', ('-', '-')):
+        print(__doc__, end='', file=sys.stderr)
+        return 2
+    lines = names[1] if command == 'show' else names[0]
+    try:
+        data = read(names[0])
+        if command == 'make':
+            write(names[1], make(data.decode('ascii', 'replace')))
+        elif command == 'text':
+            write('-', text(data).encode())
+        else:
+            write('-', show(data, read(lines).decode('ascii', 'replace')).encode())
+    except BadLines as wrong:
+        for row, what in wrong.args[0]:
+            print(f'{lines}:{row}: {what}', file=sys.stderr)
+        return 1
+    except OSError as wrong:
+        name = wrong.filename if isinstance(wrong.filename, str) else 'standard input or output'
+        print(f'tape.py: {name}: {wrong.strerror}', file=sys.stderr)
+        return 1
+    return 0
+
+
+if __name__ == '__main__':
+    sys.exit(main(*sys.argv[1:]))
