@@ -51,8 +51,12 @@ unfoldable pub ofSide : FloatDirection → List PlacedFloatedBox → List Placed
 ofSide d [] = []
 ofSide d (b ∷ bs) = elim (sameSide d (b .side)) [ true ↦ b ∷ ofSide d bs | false ↦ ofSide d bs ]
 
+-- a list of boxes as it is handed out: at the front of the array, the other places empty
+abbrev pub listOf : List PlacedFloatedBox → FloatList
+listOf l = record { boxes = front l (replicate maxBoxes noBox); count = length l }
+
 unfoldable pub floatsOf : FloatDirection → Page → FloatList
-floatsOf d p = record { boxes = front (ofSide d (p .boxes)) (replicate maxBoxes noBox); count = length (ofSide d (p .boxes)) }
+floatsOf d p = listOf (ofSide d (p .boxes))
 
 -- ---- the search of both questions
 

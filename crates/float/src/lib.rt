@@ -2,6 +2,7 @@
 // A call takes the page by value and hands it back; a refused call hands back the page it was given.
 pub mod fit;
 pub mod number;
+mod page;
 mod refuse;
 mod search;
 mod slot;
