@@ -1,4 +1,6 @@
+-- The laws, a subject to a file, in the order in which they build on each other.
 pub mod Tests
+pub mod Fractions
 pub mod Magnitude
 pub mod Keys
 pub mod Order

@@ -7,26 +7,16 @@ use mathlib.Core.Bool.{Bool, true, false}
 use lib.IntN.{pos}
 use lib.Dec.{T, ltb, lit<, lt→ltb}
 use lib.Pow.{pow-lt}
-use lib.Ieee.{Float, nan, inf, fin, Format, binary32, binary64, emax, low, le, fits, neg, add, sub}
-use Rattle.f32_laws.specs.Key.{IsFin, Num, Fin, bias, mag, signed, key}
+use lib.Ieee.{Float, fin, Format, binary32, binary64, emax, low, le, fits, neg, add, sub}
+use Rattle.f32_laws.specs.Key.{Num, Fin, bias, mag, signed, key}
 use Rattle.f32_laws.specs.Within.{two, Within, u20}
 use Rattle.f32_laws.proofs.Magnitude.{mag-lt}
-use Rattle.f32_laws.proofs.Keys.{num, key-hi, key-lo, fin-of-key, le→key, key→le, neg-fin, neg-key}
+use Rattle.f32_laws.proofs.Keys.{num, key-in, fin-of-key, le→key, key→le, neg-fin, neg-key}
 use Rattle.f32_laws.proofs.Rounding.{srnd-mono, add-key, srnd-fix}
 use Rattle.f32_laws.proofs.Sums.{add-num, sub-is}
 
 pub between-fin : {f : Format} {l x h : Float} → Fin f l → Num f x → Fin f h → T (le l x) → T (le x h) → Fin f x
-between-fin {f} {l} {x} {h} p q r a b = fin-of-key q (go f l (p .is) (le→key (num p) q a)) (go' f h (r .is) (le→key q (num r) b))
-  where
-    go : (f : Format) (l : Float) → IsFin f l → key f l ≤ key f x → 0 < key f x
-    go f nan p a = absurd p
-    go f (inf s) p a = absurd p
-    go f (fin s m e) p a = omega (arith, key-lo f s m e p)
-
-    go' : (f : Format) (h : Float) → IsFin f h → key f x ≤ key f h → key f x < bias f + bias f
-    go' f nan r b = absurd r
-    go' f (inf s) r b = absurd r
-    go' f (fin s m e) r b = omega (arith, key-hi f s m e r)
+between-fin {f} {l} {x} {h} p q r a b = fin-of-key q (omega (arith, key-in f l (p .is), le→key (num p) q a)) (omega (arith, key-in f h (r .is), le→key q (num r) b))
 
 -- ---- the powers of two
 two-fin : (f : Format) (s : Bool) (n : ℕ) → n ≤ emax f → Fin f (two s n)

@@ -1,6 +1,7 @@
 -- A key: the values of a format that are no NaN as natural numbers in the same order, so that `omega` reads them. Definitions only.
 -- A finite value is counted in units of the format's smallest value, from `bias`.
-use Prim.Native.Nat.{ℕ, suc, _+_, _-_, _*_, _/_, _^_}
+use mathlib.Core.Path.{_≡_}
+use Prim.Native.Nat.{ℕ, suc, _+_, _-_, _*_, _/_, _^_, _<_}
 use mathlib.Core.Bool.{Bool, true, false}
 use lib.IntN.{ℤ}
 use lib.Dec.{T}
@@ -50,3 +51,10 @@ key f nan = 0
 key f (inf true) = 0
 key f (inf false) = bias f + bias f
 key f (fin s m e) = signed s (bias f) (mag f m e)
+
+-- x is finite, has the sign s, and is m units of the smallest value
+pub record Units (f : Format) (x : Float) (s : Bool) (m : ℕ) : Type 0 where
+  pub finite : Fin f x
+  pub minus : sign x ≡ s
+  pub counts : key f x ≡ signed s (bias f) m
+  pub small : m < bias f

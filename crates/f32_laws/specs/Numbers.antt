@@ -13,15 +13,15 @@ larger a b = cond (lt a b) b a
 unfoldable pub smaller : Float → Float → Float
 smaller a b = cond (lt b a) b a
 
--- plus zero
+-- plus zero, as which a minus zero handed in is read
 unfoldable pub zero+ : Float
 zero+ = fin false 0 (pos 0)
 
--- 0.001 as an f32: 8589935 / 2 ^ 33, the nearest to it, bits 3A83126F
+-- the fit test's 0.001: 8589935 / 2 ^ 33, the f32 nearest to it, bits 3A83126F
 unfoldable pub tol : Float
 tol = fin false 8589935 (negsuc 32)
 
--- a whole number of 64ths, at most 2 ^ 24 of them either way, and not minus zero
+-- a whole number of 64ths, at most 2 ^ 24 of them either way, and not minus zero: the CSS rules are proved on these
 unfoldable pub is64 : Float → Bool
 is64 nan = false
 is64 (inf s) = false

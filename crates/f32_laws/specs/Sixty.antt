@@ -23,7 +23,7 @@ g64 f = 2 ^ (low f - 6)
 unfoldable pub mid : ℕ
 mid = 2 ^ 24
 
--- 131,072 in 64ths
+-- 131,072 in 64ths, the module's largest limit
 unfoldable pub half : ℕ
 half = 2 ^ 23
 

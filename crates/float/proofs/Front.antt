@@ -26,9 +26,17 @@ module _ {A : Type 0} where
   take-front l a = take-append-seam l (drop (length l) a)
 
   -- a list that is the array's own beginning
-  pub front-take : (n : ℕ) (a : List A) → n ≤ length a → front (take n a) a ≡ a
+  front-take : (n : ℕ) (a : List A) → n ≤ length a → front (take n a) a ≡ a
   unfolding front
   front-take n a h = ap (λ (k : ℕ). take n a ++ drop k a) (length-take-le n a h) ∙ take-append-drop n a
+
+  -- whatever the count
+  pub front-live : (n : ℕ) (a : List A) → front (take n a) a ≡ a
+  front-live n a = go (decLe n (length a))
+    where
+      go : Dec (n ≤ length a) → front (take n a) a ≡ a
+      go (yes h) = front-take n a h
+      go (no h) = ap (λ (l : List A). front l a) (take-all n a (omega arith) ∙ sym (take-all (length a) a (omega arith))) ∙ front-take (length a) a (omega arith)
 
   -- one more element, stored at its end
   pub front-more : (l a : List A) (x : A) → length l < length a → set (front l a) (length l) x ≡ front (l ++ x ∷ []) a

@@ -6,5 +6,6 @@ pub mod Clear
 pub mod Fit
 pub mod Search
 pub mod Place
+pub mod Settle
 pub mod Slot
 pub mod Calculator

@@ -213,8 +213,11 @@ abbrev pub placedPage : PlaceAnswer → Page → FloatContext → FloatContext
 placedPage (PlaceAnswer.Refused n) q p = p
 placedPage (PlaceAnswer.At x y k) q p = stored q p
 
+abbrev pub held : FloatContext → Result → Placed
+held p r = record { answer = r .answer; page = placedPage (r .answer) (r .page) p }
+
 unfoldable pub placeOf : FloatContext → Call → Placed
-placeOf p c = record { answer = place (pageOf p) c .answer; page = placedPage (place (pageOf p) c .answer) (place (pageOf p) c .page) p }
+placeOf p c = held p (place (pageOf p) c)
 
 -- `set_width`: refusals 2, 3 and 4
 unfoldable pub widthCheck : List PlacedFloatedBox → Float → Done

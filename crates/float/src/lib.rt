@@ -1,8 +1,10 @@
 // The float-placement module: one page of floated boxes, the calls that change it and the calls that ask it.
 // A call takes the page by value and hands it back; a refused call hands back the page it was given.
+mod clearing;
 pub mod fit;
 pub mod number;
 mod page;
+mod place;
 mod refuse;
 mod search;
 mod slot;

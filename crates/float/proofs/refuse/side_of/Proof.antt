@@ -1,0 +1,21 @@
+-- `float::refuse::side_of` meets its contract: a code that is not 0 is a successor.
+use mathlib.Core.Path.{_≡_, refl}
+use Prim.Native.Nat.{ℕ, zero, suc}
+use borrow.Author.Needs.{needs}
+use Rattle.float.specs.declared.FloatDirection.{FloatDirection}
+use Rattle.float.specs.Refuse.{sideOf}
+use Rattle.float.proofs.refuse.side_of.Statement.{statement}
+use Rattle.float.proofs.refuse.side_of.Tie as tie
+
+other : (n : ℕ) → (n ≡ 0 → ⊥) → FloatDirection.Right ≡ sideOf n
+other zero h = absurd (h refl)
+other (suc n) h = refl
+
+returns : tie.Need-returns
+returns c = search needs
+
+returns-2 : tie.Need-returns-2
+returns-2 c = other _ (c .match .rest .1)
+
+pub side-of-spec : {M : Type 1} → statement M
+side-of-spec = tie.close (tie.spec returns returns-2)

@@ -1,0 +1,50 @@
+// Clearing: the bottoms and the band numbers that a clear asks for. A page is not handed over: its two sides are.
+ghost use mathlib.Core.Path.{_≡_};
+ghost use Rattle.float.specs.Page.{Page};
+ghost use Rattle.float.specs.Clear.{lower as lowerOf, raiseTo, cleared as clearedOf, clearedPast};
+use crate::Bottom;
+use crate::Clear;
+use crate::number;
+
+pub fn lower(a: Bottom, b: Bottom) -> Bottom
+    ensures { λ r. ⌜ r ≡ lowerOf a b ⌝ }
+{
+    match a {
+        Bottom::None => b,
+        Bottom::At(x) => match b {
+            Bottom::None => a,
+            Bottom::At(y) => Bottom::At(number::larger(x, y)),
+        },
+    }
+}
+
+pub fn raise_to(y: f32, b: Bottom) -> f32
+    ensures { λ r. ⌜ r ≡ raiseTo y b ⌝ }
+{
+    match b {
+        Bottom::None => y,
+        Bottom::At(x) => number::larger(y, x),
+    }
+}
+
+pub fn cleared(left: Bottom, right: Bottom, clear: Clear) -> Bottom
+    ensures { λ r. ⌜ ((p : Page) → p .leftBottom ≡ left → p .rightBottom ≡ right → r ≡ clearedOf p clear) ⌝ }
+{
+    match clear {
+        Clear::None => Bottom::None,
+        Clear::Left => left,
+        Clear::Right => right,
+        Clear::Both => lower(left, right),
+    }
+}
+
+pub fn cleared_past(left: usize, right: usize, clear: Clear) -> usize
+    ensures { λ r. ⌜ ((p : Page) → p .left .past ≡ left → p .right .past ≡ right → r ≡ clearedPast p clear) ⌝ }
+{
+    match clear {
+        Clear::None => 0,
+        Clear::Left => left,
+        Clear::Right => right,
+        Clear::Both => number::larger_n(left, right),
+    }
+}

@@ -1,0 +1,65 @@
+
+// Appended by the host: the step count of document 01's rule 4, and the private parts of page and calculator.
+
+thread_local! {
+    static GIVEN_UP: core::cell::Cell<u32> = const { core::cell::Cell::new(0) };
+}
+
+fn given_up() {
+    GIVEN_UP.with(|count| count.set(count.get() + 1));
+}
+
+/// The starts and ends given up since the last call of this.
+pub fn take_steps() -> u32 {
+    GIVEN_UP.with(|count| count.take())
+}
+
+/// A band as document 01 names its parts.
+#[derive(Debug, Clone, Copy, PartialEq)]
+pub struct Band {
+    pub start: f32,
+    pub end: f32,
+    pub insets: [f32; 2],
+    pub marks: [bool; 2],
+}
+
+impl FloatContext {
+    pub fn band_count(&self) -> usize {
+        self.segments.len()
+    }
+
+    pub fn bands(&self) -> Vec<Band> {
+        self.segments
+            .iter()
+            .map(|s| Band { start: s.y.start, end: s.y.end, insets: s.insets, marks: s.has_float })
+            .collect()
+    }
+
+    /// For each side the first and the past-last band number.
+    pub fn kept(&self) -> [Range<usize>; 2] {
+        self.last_placed_floats.clone()
+    }
+
+    pub fn bottoms(&self) -> [Option<f32>; 2] {
+        self.clear_bottoms
+    }
+
+    pub fn ceiling(&self) -> Option<f32> {
+        self.float_ceiling
+    }
+
+    pub fn width(&self) -> f32 {
+        self.available_width
+    }
+}
+
+impl FloatIntrinsicWidthCalculator {
+    /// The same calculator again.
+    pub fn again(&self) -> Self {
+        Self { ..*self }
+    }
+
+    pub fn sums(&self) -> [f32; 2] {
+        self.side_sums
+    }
+}

@@ -1,0 +1,83 @@
+//! Finds what the host compares: taffy's float.rs, unchanged and counted, and the archives of the export crates.
+//! Each is taken if it is there: cfg has_taffy, has_panel, has_probe.
+
+use std::path::{Path, PathBuf};
+use std::{env, fs};
+
+/// Handed to the counted copy: the step count and the private parts of the page.
+const APPENDED: &str = include_str!("appended.rs");
+
+fn main() {
+    let here = PathBuf::from(env::var("CARGO_MANIFEST_DIR").unwrap());
+    let root = here.parent().unwrap();
+    println!("cargo:rerun-if-changed=build.rs");
+    println!("cargo:rerun-if-changed=appended.rs");
+    println!("cargo:rerun-if-env-changed=TAFFY_FLOAT_RS");
+    for part in ["taffy", "panel", "probe"] {
+        println!("cargo:rustc-check-cfg=cfg(has_{part})");
+    }
+    taffy(root);
+    archive(root, "panel");
+    archive(root, "probe");
+}
+
+/// Writes oracle.rs, which names float.rs where it lies and the counted copy beside it.
+fn taffy(root: &Path) {
+    let out = PathBuf::from(env::var("OUT_DIR").unwrap());
+    let named = env::var_os("TAFFY_FLOAT_RS").map(PathBuf::from);
+    let beside = root.join("../shared/docs/src/src/compute/float.rs");
+    let mut modules = String::new();
+    for place in named.into_iter().chain([beside]) {
+        println!("cargo:rerun-if-changed={}", place.display());
+        let Ok(text) = fs::read_to_string(&place) else { continue };
+        let unchanged = place.canonicalize().unwrap();
+        let copy = out.join("float_counted.rs");
+        fs::write(&copy, counted(&text)).unwrap();
+        for (name, path) in [("float", unchanged), ("float_counted", copy)] {
+            modules += &format!("#[path = {path:?}]\n#[allow(dead_code, missing_docs)]\npub mod {name};\n");
+        }
+        println!("cargo:rustc-cfg=has_taffy");
+        break;
+    }
+    fs::write(out.join("oracle.rs"), modules).unwrap();
+}
+
+/// The text with a count where the search gives up a start (twice) or an end (once), and nowhere else.
+fn counted(text: &str) -> String {
+    let mut copy = String::new();
+    let mut starts = 0;
+    let mut ends = 0;
+    let mut before = "";
+    for line in text.lines() {
+        let gives_up = matches!(line.trim(), "continue;" | "continue 'outer;");
+        if gives_up {
+            match before {
+                "end_idx = end_idx.max(start_idx);" => starts += 1,
+                "end_idx += 1;" => ends += 1,
+                other => panic!("float.rs goes on after '{other}': it is not taffy 0.15.1"),
+            }
+            copy += "given_up();\n";
+        }
+        copy += line;
+        copy += "\n";
+        before = line.trim();
+    }
+    assert_eq!(
+        (starts, ends),
+        (2, 1),
+        "float.rs has other places where a start or an end is given up: it is not taffy 0.15.1"
+    );
+    copy + APPENDED
+}
+
+/// Links target/staticlib/libNAME.a, where `rt staticlib NAME` left it.
+fn archive(root: &Path, name: &str) {
+    let folder = root.join("target/staticlib");
+    let file = folder.join(format!("lib{name}.a"));
+    println!("cargo:rerun-if-changed={}", file.display());
+    if file.exists() {
+        println!("cargo:rustc-cfg=has_{name}");
+        println!("cargo:rustc-link-search=native={}", folder.display());
+        println!("cargo:rustc-link-lib=static={name}");
+    }
+}

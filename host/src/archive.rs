@@ -1,0 +1,101 @@
+//! The proved archives, as the host calls them, and which of them are linked.
+
+/// Runs a tape into the room lent: how many bytes were written, or -13.
+pub type Runner = fn(&[u8], &mut [u8]) -> i64;
+
+#[cfg(has_panel)]
+extern "C" {
+    fn bulameki_run_tape(tape: *const u8, tape_len: usize, answers: *mut u8, room: usize) -> i64;
+}
+
+/// `bulameki_run_tape` of the archive that ships, where it is linked.
+pub fn panel() -> Option<Runner> {
+    // SAFETY: both pointers are those of slices of the lengths given.
+    #[cfg(has_panel)]
+    return Some(|tape, room| unsafe { bulameki_run_tape(tape.as_ptr(), tape.len(), room.as_mut_ptr(), room.len()) });
+    #[cfg(not(has_panel))]
+    None
+}
+
+/// Stands in the room before a run, and around it; no line has this byte.
+const GUARD: u8 = 0xEE;
+const MARGIN: usize = 64;
+
+/// How a run differs from the judge, if it does: its result, the lines, and every byte around them.
+pub fn difference(run: Runner, tape: &[u8], lines: &[u8], room: usize) -> Option<String> {
+    let mut lent = vec![GUARD; MARGIN + room + MARGIN];
+    let result = run(tape, &mut lent[MARGIN..MARGIN + room]);
+    let fits = lines.len() <= room;
+    let written = if fits { lines } else { &[] };
+    let expected = if fits { lines.len() as i64 } else { -13 };
+    let (before, rest) = lent.split_at(MARGIN);
+    let (answered, after) = rest.split_at(written.len());
+    if result == expected && answered == written && before.iter().chain(after).all(|byte| *byte == GUARD) {
+        return None;
+    }
+    let mut shown: Vec<u8> = lent[MARGIN..MARGIN + room].to_vec();
+    shown.truncate(shown.iter().rposition(|byte| *byte != GUARD).map_or(0, |last| last + 1));
+    Some(format!(
+        "room {room}: result {result}, expected {expected}\nthe archive's lines:\n{}the crate's lines:\n{}",
+        String::from_utf8_lossy(&shown),
+        String::from_utf8_lossy(written)
+    ))
+}
+
+/// `bulameki_run_tape` with null for both, of length 0: a tape of no bytes gives no line.
+#[cfg(has_panel)]
+pub fn panel_of_nothing() -> i64 {
+    // SAFETY: the header allows null where the length is 0.
+    unsafe { bulameki_run_tape(std::ptr::null(), 0, std::ptr::null_mut(), 0) }
+}
+
+/// The leaves on numbers, exported for tests alone.
+#[cfg(has_probe)]
+pub mod probe {
+    mod raw {
+        extern "C" {
+            pub fn probe_larger(a: f32, b: f32) -> f32;
+            pub fn probe_smaller(a: f32, b: f32) -> f32;
+            pub fn probe_plus_zero(x: f32) -> f32;
+            pub fn probe_finite(x: f32) -> u8;
+            pub fn probe_length_allowed(x: f32) -> u8;
+            pub fn probe_offset_allowed(x: f32) -> u8;
+            pub fn probe_reach_allowed(x: f32) -> u8;
+            pub fn probe_fits(
+                side: u8,
+                width: f32,
+                page: f32,
+                band_left: f32,
+                band_right: f32,
+                inset_left: f32,
+                inset_right: f32,
+            ) -> u8;
+        }
+    }
+
+    // SAFETY, of all: the functions take and give plain numbers.
+    pub fn larger(a: f32, b: f32) -> f32 {
+        unsafe { raw::probe_larger(a, b) }
+    }
+    pub fn smaller(a: f32, b: f32) -> f32 {
+        unsafe { raw::probe_smaller(a, b) }
+    }
+    pub fn plus_zero(x: f32) -> f32 {
+        unsafe { raw::probe_plus_zero(x) }
+    }
+    pub fn finite(x: f32) -> u8 {
+        unsafe { raw::probe_finite(x) }
+    }
+    pub fn length_allowed(x: f32) -> u8 {
+        unsafe { raw::probe_length_allowed(x) }
+    }
+    pub fn offset_allowed(x: f32) -> u8 {
+        unsafe { raw::probe_offset_allowed(x) }
+    }
+    pub fn reach_allowed(x: f32) -> u8 {
+        unsafe { raw::probe_reach_allowed(x) }
+    }
+    pub fn fits(side: u8, width: f32, page: f32, band: [f32; 2], containing: [f32; 2]) -> u8 {
+        unsafe { raw::probe_fits(side, width, page, band[0], band[1], containing[0], containing[1]) }
+    }
+}

@@ -1,0 +1,265 @@
+//! What the crate answers behind document 01's limits and refusals: every line of a tape, from the counted copy of float.rs.
+
+use crate::float_counted::{take_steps, FloatContext, FloatIntrinsicWidthCalculator};
+use crate::tape::{record_at, Record, LONGEST, NONE};
+use crate::{AvailableSpace, Clear, Direction, FloatDirection, Size};
+use std::ops::RangeInclusive;
+
+const LENGTH: RangeInclusive<f32> = 0.0..=65_536.0;
+const OFFSET: RangeInclusive<f32> = -65_536.0..=65_536.0;
+const REACH: f32 = 131_072.0;
+const BOXES: usize = 64;
+const BANDS: usize = 96;
+
+/// The answer to one record.
+#[derive(Debug, Clone, Copy, PartialEq)]
+pub enum Answer {
+    Fresh,
+    Width,
+    Placed { x: f32, y: f32, steps: u32 },
+    Content { band: Option<usize>, x: f32, y: f32, width: f32 },
+    Bfc { band: Option<usize>, x: f32, y: f32, border: f32, stretch: f32 },
+    Started,
+    Added,
+    Intrinsic(f32),
+    Refused(u8),
+}
+
+/// What was answered, by kind.
+#[derive(Debug, Clone, Copy, Default)]
+pub struct Counts {
+    pub placements: u64,
+    pub questions: u64,
+    pub refusals: [u64; 14],
+}
+
+/// A page and a calculator as a tape sees them.
+#[derive(Default)]
+pub struct Judge {
+    pub page: FloatContext,
+    calculator: Option<FloatIntrinsicWidthCalculator>,
+    pub counts: Counts,
+}
+
+fn side(code: u8) -> Result<FloatDirection, u8> {
+    [FloatDirection::Left, FloatDirection::Right].get(usize::from(code)).copied().ok_or(1)
+}
+
+fn clear(code: u8) -> Result<Clear, u8> {
+    [Clear::None, Clear::Left, Clear::Right, Clear::Both].get(usize::from(code)).copied().ok_or(1)
+}
+
+fn direction(code: u8) -> Result<Direction, u8> {
+    [Direction::Ltr, Direction::Rtl].get(usize::from(code)).copied().ok_or(1)
+}
+
+/// Refusal 2 over all numbers, then 3 over all; a minus zero is read as plus zero.
+fn numbers<const N: usize>(given: [(f32, RangeInclusive<f32>); N]) -> Result<[f32; N], u8> {
+    if given.iter().any(|(x, _)| !x.is_finite()) {
+        return Err(2);
+    }
+    if given.iter().any(|(x, limits)| !limits.contains(x)) {
+        return Err(3);
+    }
+    Ok(given.map(|(x, _)| if x == 0.0 { 0.0 } else { x }))
+}
+
+fn band_number(after: u16) -> Option<usize> {
+    (after != NONE).then_some(usize::from(after))
+}
+
+impl Judge {
+    pub fn answer(&mut self, record: &Record) -> Answer {
+        let answer = self.decide(record).unwrap_or_else(Answer::Refused);
+        match answer {
+            Answer::Placed { .. } => self.counts.placements += 1,
+            Answer::Content { .. } | Answer::Bfc { .. } => self.counts.questions += 1,
+            Answer::Refused(number) => self.counts.refusals[usize::from(number)] += 1,
+            _ => {}
+        }
+        answer
+    }
+
+    fn boxes(&self) -> usize {
+        self.page.left_floats().len() + self.page.right_floats().len()
+    }
+
+    /// The answer, or the lowest refusal that holds; page and calculator change only with an answer.
+    fn decide(&mut self, record: &Record) -> Result<Answer, u8> {
+        match *record {
+            Record::New => {
+                *self = Judge { counts: self.counts, ..Judge::default() };
+                Ok(Answer::Fresh)
+            }
+            Record::Width(width) => {
+                let [width] = numbers([(width, LENGTH)])?;
+                if self.boxes() > 0 {
+                    return Err(4);
+                }
+                self.page.set_width(width);
+                Ok(Answer::Width)
+            }
+            Record::Place { side: s, clear: c, width, height, min_y, insets } => {
+                let (side, clear) = (side(s)?, clear(c)?);
+                let [width, height, min_y, left, right] = numbers([
+                    (width, LENGTH),
+                    (height, LENGTH),
+                    (min_y, OFFSET),
+                    (insets[0], LENGTH),
+                    (insets[1], LENGTH),
+                ])?;
+                self.place(side, clear, Size { width, height }, min_y, [left, right])
+            }
+            Record::Content { min_y, insets, clear: c, after } => {
+                let clear = clear(c)?;
+                let [min_y, left, right] = numbers([(min_y, OFFSET), (insets[0], LENGTH), (insets[1], LENGTH)])?;
+                let slot = self.page.find_content_slot(min_y, [left, right], clear, band_number(after));
+                Ok(Answer::Content { band: slot.segment_id, x: slot.x, y: slot.y, width: slot.width })
+            }
+            Record::Bfc { min_y, insets, margins, direction: d, clear: c, after } => {
+                let (direction, clear) = (direction(d)?, clear(c)?);
+                let [min_y, left, right, m_left, m_right] = numbers([
+                    (min_y, OFFSET),
+                    (insets[0], LENGTH),
+                    (insets[1], LENGTH),
+                    (margins[0], OFFSET),
+                    (margins[1], OFFSET),
+                ])?;
+                let after = band_number(after);
+                let slot = self.page.find_bfc_slot(min_y, [left, right], [m_left, m_right], direction, clear, after);
+                let (border, stretch) = (slot.border_width, slot.stretch_width);
+                Ok(Answer::Bfc { band: slot.segment_id, x: slot.x, y: slot.y, border, stretch })
+            }
+            Record::Calc { mode, number } => {
+                let space = match mode {
+                    0 => AvailableSpace::Definite(numbers([(number, LENGTH)])?[0]),
+                    1 => AvailableSpace::MinContent,
+                    2 => AvailableSpace::MaxContent,
+                    _ => return Err(1),
+                };
+                self.calculator = Some(FloatIntrinsicWidthCalculator::new(space));
+                Ok(Answer::Started)
+            }
+            Record::Add { width, side: s, clear: c } => {
+                let (side, clear) = (side(s)?, clear(c)?);
+                let [width] = numbers([(width, LENGTH)])?;
+                let mut trial = self.calculator.as_ref().ok_or(8)?.again();
+                trial.add_float(width, side, clear);
+                let [left, right] = trial.sums();
+                if left > REACH || right > REACH || left + right > REACH {
+                    return Err(6);
+                }
+                self.calculator = Some(trial);
+                Ok(Answer::Added)
+            }
+            Record::Result => Ok(Answer::Intrinsic(self.calculator.as_ref().ok_or(8)?.result())),
+        }
+    }
+
+    /// A placement is tried on a copy of the page, where the crate knows no limit; the copy is kept if 6 and 7 do not hold.
+    fn place(
+        &mut self,
+        side: FloatDirection,
+        clear: Clear,
+        size: Size<f32>,
+        min_y: f32,
+        insets: [f32; 2],
+    ) -> Result<Answer, u8> {
+        if self.boxes() == BOXES {
+            return Err(5);
+        }
+        let mut trial = self.page.clone();
+        take_steps();
+        trial.place_floated_box(size, min_y, insets, side, clear);
+        let steps = take_steps();
+        let placed = match side {
+            FloatDirection::Left => trial.left_floats().last(),
+            FloatDirection::Right => trial.right_floats().last(),
+        };
+        let (y, inset) = placed.map(|placed| (placed.y, placed.x_inset)).unwrap();
+        if y + size.height > REACH || inset + size.width > REACH {
+            return Err(6);
+        }
+        if trial.band_count() > BANDS {
+            return Err(7);
+        }
+        let x = match side {
+            FloatDirection::Left => inset,
+            FloatDirection::Right => trial.width() - inset - size.width,
+        };
+        self.page = trial;
+        Ok(Answer::Placed { x, y, steps })
+    }
+
+    /// All lines of a tape that starts here.
+    pub fn lines(&mut self, tape: &[u8]) -> Vec<u8> {
+        if tape.len() > LONGEST {
+            return b"L\n".to_vec();
+        }
+        let mut lines = Vec::new();
+        let mut at = 0;
+        while let Some((record, next)) = record_at(tape, at) {
+            self.answer(&record).write(&mut lines);
+            at = next;
+        }
+        if at < tape.len() {
+            lines.extend(format!("T {at}\n").bytes());
+        }
+        lines
+    }
+}
+
+/// The lines of a tape on a fresh page.
+pub fn lines(tape: &[u8]) -> Vec<u8> {
+    Judge::default().lines(tape)
+}
+
+impl Answer {
+    /// The line of document 01.
+    pub fn write(&self, to: &mut Vec<u8>) {
+        match *self {
+            Answer::Fresh => to.push(b'N'),
+            Answer::Width => to.push(b'W'),
+            Answer::Placed { x, y, steps } => {
+                to.push(b'P');
+                hex(to, &[x, y]);
+                to.push(b' ');
+                to.extend(steps.to_string().bytes());
+            }
+            Answer::Content { band, x, y, width } => {
+                to.push(b'C');
+                number_or_dash(to, band);
+                hex(to, &[x, y, width]);
+            }
+            Answer::Bfc { band, x, y, border, stretch } => {
+                to.push(b'B');
+                number_or_dash(to, band);
+                hex(to, &[x, y, border, stretch]);
+            }
+            Answer::Started => to.push(b'S'),
+            Answer::Added => to.push(b'A'),
+            Answer::Intrinsic(width) => {
+                to.push(b'I');
+                hex(to, &[width]);
+            }
+            Answer::Refused(number) => to.extend(format!("R {number}").bytes()),
+        }
+        to.push(b'\n');
+    }
+}
+
+fn hex(to: &mut Vec<u8>, numbers: &[f32]) {
+    for number in numbers {
+        to.push(b' ');
+        let bits = number.to_bits();
+        to.extend((0..8).rev().map(|place| b"0123456789ABCDEF"[(bits >> (4 * place)) as usize & 15]));
+    }
+}
+
+fn number_or_dash(to: &mut Vec<u8>, band: Option<usize>) {
+    to.push(b' ');
+    match band {
+        Some(band) => to.extend(band.to_string().bytes()),
+        None => to.push(b'-'),
+    }
+}
