@@ -59,17 +59,6 @@ min-cases P c m f g = go (decLe c m)
 pub clamped : (l : List Segment) (f : ℕ) (y : Float) → firstBelow l (min f (length l)) y ≡ firstBelow l f y
 clamped l f y = min-cases (λ k. firstBelow l k y ≡ firstBelow l f y) f (length l) (λ h. refl) (λ h. past y l (length l) (omega arith) ∙ sym (past y l f h))
 
--- a count past the array's length takes all of it
-pub take-min : {A : Type 0} (l : List A) (c m : ℕ) → length l ≡ m → take (min c m) l ≡ take c l
-take-min l c m e = min-cases (λ k. take k l ≡ take c l) c m (λ h. refl) (λ h. take-all m l (omega arith) ∙ sym (take-all c l (omega arith)))
-
--- a page that the machine holds has 96 places for bands and 64 for boxes
-pub bands-96 : (p : FloatContext) (v : List Val) → Is (row the-type) p v → length (p .bands) ≡ 96
-bands-96 p v g = sym (length-map (p .bands) _) ∙ g .1 .1 .1 .0 .1 .0 .1
-
-pub boxes-64 : (p : FloatContext) (v : List Val) → Is (row the-type) p v → length (p .boxes) ≡ 64
-boxes-64 p v g = sym (length-map (p .boxes) _) ∙ g .1 .1 .1 .1 .1 .0 .1 .0 .1
-
 -- the same of the first n bands of an array
 module _ (bs : List Segment) (n : ℕ) (y : Float) (h : n ≤ length bs) where
   pub found-in : (i : ℕ) → i < n → lt y (getD bs i none .end) ≡ true → firstBelow (take n bs) i y ≡ i

@@ -1,12 +1,13 @@
 -- Placing: from what the code's parts answer to the definitions of rules 1, 2, 5 and 8 and of the refusals.
 use Prim.Native.Nat.{ℕ, suc, _+_, _≤_, _<_, min, max}
-use mathlib.Core.Path.{_≡_, refl, sym, ap, _∙_}
+use mathlib.Core.Path.{_≡_, refl, sym, ap, ap₂, _∙_}
 use mathlib.Core.Bool.{true}
 use mathlib.Core.List.{List, [], _∷_}
 use native.Mathlib.Omega.{arith}
 use borrow.Author.Tests.{ne-eqb}
 use lib.Ieee.{Float, binary32, add}
 use lib.ListN.{length, take, set, length-take}
+use lib.Seq.{length-take-le}
 use Rattle.float.specs.declared.Bottom.{Bottom}
 use Rattle.float.specs.declared.Clear.{Clear}
 use Rattle.float.specs.declared.Done.{Done}
@@ -20,14 +21,17 @@ use Rattle.float.specs.declared.Segment.{Segment}
 use Rattle.float.specs.declared.Widened.{Widened}
 use Rattle.float.specs.declared.fit.Ask.{Ask}
 use Rattle.float.specs.declared.refuse.Check.{Check}
+use Rattle.float.specs.declared.search.Spot.{Spot}
 use Rattle.float.specs.Numbers.{size, plusZero}
-use Rattle.float.specs.Bands.{onSide}
-use Rattle.float.specs.Clear.{lower, clearedPast}
+use Rattle.float.specs.Bands.{onSide, firstBelow}
+use Rattle.float.specs.Clear.{lower, raiseTo, cleared, clearedPast}
 use Rattle.float.specs.Page.{Page, pageOf, front, stored}
-use Rattle.float.specs.Place.{Call, askOf, firstAllowed, boxOf, xOf, widthCheck, setWidth, widthOf}
-use Rattle.float.specs.Refuse.{sideOf, checkOf}
+use Rattle.float.specs.Place.{Call, askOf, lowest, firstAllowed, spotOf, boxOf, xOf, widthCheck, setWidth, widthOf}
+use Rattle.float.specs.Refuse.{sideOf, clearOf, checkOf}
+use Rattle.float.specs.Search.{searchFrom}
 use Rattle.float.specs.Settle.{bottomAfter, numberAfter, settledOf}
-use Rattle.float.proofs.Front.{front-nil, front-live}
+use Rattle.float.proofs.Front.{front-nil, front-live, take-min}
+use Rattle.float.proofs.Bands.{clamped}
 
 -- what is asked of a place, from its numbers
 pub asked : (w h pw l r : Float) (s : FloatDirection) (p : Page) (c : Call) → p .width ≡ pw → c .width ≡ w → c .height ≡ h → c .left ≡ l → c .right ≡ r → sideOf (c .side) ≡ s
@@ -82,3 +86,32 @@ module _ (p : FloatContext) (w v : Float) (k : Check) (f : v ≡ plusZero w) (g 
       let t : front (take (p .count) (p .bands)) (p .bands) ≡ p .bands = front-live (p .count) (p .bands) in
       let u : front [] (p .boxes) ≡ p .boxes = front-nil (p .boxes) in
       simp (sym f, z, widthCheck, sym g, e, setWidth, c, t, u)
+
+-- ---- rules 1 to 4
+module _ (p : FloatContext) (bands : length (p .bands) ≡ 96) (n : ℕ) (live : n ≡ min (p .count) 96) (a : Ask) (c : Call) (asks : a ≡ askOf (pageOf p) c) where
+  live-at : take n (p .bands) ≡ pageOf p .bands
+  unfolding pageOf
+  live-at = ap (λ (k : ℕ). take k (p .bands)) live ∙ take-min (p .bands) (p .count) 96 bands
+
+  spot-is : (y : Float) (f : ℕ) (s : Spot) → y ≡ lowest (pageOf p) c → min f n ≡ min (firstAllowed (pageOf p) (clearOf (c .clear))) n
+      → s ≡ searchFrom (take n (p .bands)) a (firstBelow (take n (p .bands)) f y) y → s ≡ spotOf (pageOf p) c
+  unfolding spotOf
+  spot-is y f s e g h =
+      let b : take n (p .bands) ≡ pageOf p .bands = live-at in
+      let m : length (pageOf p .bands) ≡ n = ap length (sym b) ∙ length-take-le n (p .bands) (omega arith) in
+      let i : firstBelow (pageOf p .bands) f y ≡ firstBelow (pageOf p .bands) (firstAllowed (pageOf p) (clearOf (c .clear))) y =
+      sym (clamped (pageOf p .bands) f y) ∙ ap (λ (k : ℕ). firstBelow (pageOf p .bands) k y) (ap (min f) m ∙ g ∙ sym (ap (min (firstAllowed (pageOf p) (clearOf (c .clear)))) m)) ∙ clamped (pageOf p .bands) (firstAllowed (pageOf p) (clearOf (c .clear))) y in
+      h ∙ ap (λ (l : List Segment). searchFrom l a (firstBelow l f y) y) b ∙ ap (λ (k : ℕ). searchFrom (pageOf p .bands) a k y) i ∙ ap (λ (z : Ask). searchFrom (pageOf p .bands) z (firstBelow (pageOf p .bands) (firstAllowed (pageOf p) (clearOf (c .clear))) y) y) asks
+      ∙ ap (λ (z : Float). searchFrom (pageOf p .bands) (askOf (pageOf p) c) (firstBelow (pageOf p .bands) (firstAllowed (pageOf p) (clearOf (c .clear))) z) z) e
+
+  -- the same as the code has it
+  pub spot-found : (minY : Float) (k : Clear) → c .minY ≡ minY → clearOf (c .clear) ≡ k → (t : Float) (b : Bottom) (y : Float) (f : ℕ) (s : Spot)
+      → t ≡ raiseTo minY (p .ceiling) → ((q : Page) → q .leftBottom ≡ p .«left_bottom» → q .rightBottom ≡ p .«right_bottom» → b ≡ cleared q k) → y ≡ raiseTo t b
+      → ((q : Page) → q .left .first ≡ p .«left_first» → q .left .past ≡ p .«left_past» → q .right .first ≡ p .«right_first» → q .right .past ≡ p .«right_past» → min f n ≡ min (firstAllowed q k) n)
+      → s ≡ searchFrom (take n (p .bands)) a (firstBelow (take n (p .bands)) f y) y → s ≡ spotOf (pageOf p) c
+  unfolding pageOf lowest
+  spot-found minY k e g t b y f s h i j m o =
+      spot-is y f s
+      (j ∙ ap₂ raiseTo (h ∙ ap (λ (z : Float). raiseTo z (p .ceiling)) (sym e)) (i (pageOf p) refl refl ∙ ap (cleared (pageOf p)) (sym g)))
+      (m (pageOf p) refl refl refl refl ∙ ap (λ (z : Clear). min (firstAllowed (pageOf p) z) n) (sym g))
+      o

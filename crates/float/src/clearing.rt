@@ -1,10 +1,15 @@
 // Clearing: the bottoms and the band numbers that a clear asks for. A page is not handed over: its two sides are.
 ghost use mathlib.Core.Path.{_≡_};
-ghost use Rattle.float.specs.Page.{Page};
+ghost use Rattle.float.specs.Page.{Page, pageOf};
+ghost use Rattle.float.specs.Slot.{clearedThreshold};
 ghost use Rattle.float.specs.Clear.{lower as lowerOf, raiseTo, cleared as clearedOf, clearedPast};
 use crate::Bottom;
 use crate::Clear;
+use crate::FloatContext;
+use crate::Threshold;
 use crate::number;
+use crate::refuse;
+use crate::refuse::Check;
 
 pub fn lower(a: Bottom, b: Bottom) -> Bottom
     ensures { λ r. ⌜ r ≡ lowerOf a b ⌝ }
@@ -46,5 +51,21 @@ pub fn cleared_past(left: usize, right: usize, clear: Clear) -> usize
         Clear::Left => left,
         Clear::Right => right,
         Clear::Both => number::larger_n(left, right),
+    }
+}
+
+impl FloatContext {
+    pub fn cleared_threshold(self, clear: u8) -> Threshold
+        ensures { λ r. ⌜ r ≡ clearedThreshold (pageOf self) clear ⌝ }
+    {
+        let check = refuse::check_clear(clear);
+        match check {
+            Check::Passed => {
+                let left = self.left_bottom;
+                let right = self.right_bottom;
+                Threshold::Answer(cleared(left, right, refuse::clear_of(clear)))
+            }
+            Check::Refused(no) => Threshold::Refused(no),
+        }
     }
 }

@@ -1,5 +1,7 @@
 // The float-placement module: one page of floated boxes, the calls that change it and the calls that ask it.
 // A call takes the page by value and hands it back; a refused call hands back the page it was given.
+mod band;
+mod calculator;
 mod clearing;
 pub mod fit;
 pub mod number;
@@ -8,6 +10,7 @@ mod place;
 mod refuse;
 mod search;
 mod slot;
+mod strip;
 
 // The side that a box floats to.
 pub enum FloatDirection {

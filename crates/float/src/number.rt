@@ -28,7 +28,7 @@ pub fn smaller(a: f32, b: f32) -> f32
 pub fn larger_n(a: usize, b: usize) -> usize
     ensures { λ r. ⌜ r ≡ max a b ⌝ }
 {
-    if a < b { b } else { a }
+    if b < a { a } else { b }
 }
 
 pub fn smaller_n(a: usize, b: usize) -> usize

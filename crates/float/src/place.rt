@@ -3,8 +3,8 @@ ghost use mathlib.Core.Path.{_≡_};
 ghost use Prim.Native.Nat.{ℕ, _<_, _≤_, min, max};
 ghost use lib.ListN.{length, take};
 ghost use Rattle.float.specs.Page.{Page, pageOf};
-ghost use Rattle.float.specs.Place.{near as nearOf, xOf, boxOf, firstAllowed, widthOf, askOf, Call, held, flat as flatOf};
-ghost use Rattle.float.specs.Refuse.{sideOf};
+ghost use Rattle.float.specs.Place.{near as nearOf, xOf, boxOf, firstAllowed, widthOf, askOf, Call, held, flat as flatOf, high as highOf, make, spotOf, placeOf};
+ghost use Rattle.float.specs.Refuse.{sideOf, clearOf};
 ghost use Rattle.float.specs.Settle.{bottomAfter, numberAfter, settledOf};
 use crate::Bottom;
 use crate::Clear;
@@ -23,7 +23,9 @@ use crate::number;
 use crate::page;
 use crate::refuse;
 use crate::refuse::Check;
+use crate::search;
 use crate::search::Spot;
+use crate::strip;
 
 // Refusal 6 is given where this fails.
 fn near(a: Ask, inset: f32, y: f32) -> bool
@@ -167,6 +169,77 @@ fn settled(
     }
 }
 
+// Rule 5: a box of no height answers y as it stands; no band and no kept band number changes.
+fn flat(p: FloatContext, n: usize, a: Ask, spot: Spot) -> Placed
+    requires { ⌜ (n ≡ min (p .count) 96) × (p .«box_count» < 64) ⌝ }
+    ensures { λ r. ⌜ r ≡ held p (flatOf (pageOf p) a spot) ⌝ }
+{
+    if !near(a, spot.inset, spot.y) {
+        return Placed {
+            answer: PlaceAnswer::Refused(Refusal::TooFar),
+            page: p,
+        };
+    }
+    let bands = p.bands;
+    settled(p, bands, n, 0, 0, a, spot.inset, spot.y, spot.steps)
+}
+
+// A box with a height: refusals 6 and 7, then rule 8.
+fn high(p: FloatContext, n: usize, a: Ask, spot: Spot) -> Placed
+    requires { ⌜ (n ≡ min (p .count) 96) × (p .«box_count» < 64) × (spot .start ≤ spot .end) × (spot .end ≤ n) ⌝ }
+    ensures { λ r. ⌜ r ≡ held p (highOf (pageOf p) a spot (make a (pageOf p .bands) spot)) ⌝ }
+{
+    let bands = p.bands;
+    let y = strip::made_y(bands, n, spot);
+    if !near(a, spot.inset, y) {
+        return Placed {
+            answer: PlaceAnswer::Refused(Refusal::TooFar),
+            page: p,
+        };
+    }
+    let s = strip::record(bands, n, a, spot);
+    if s.full {
+        return Placed {
+            answer: PlaceAnswer::Refused(Refusal::BandsFull),
+            page: p,
+        };
+    }
+    let q = s.bands;
+    settled(
+        p,
+        q,
+        s.count,
+        s.start,
+        s.end + 1,
+        a,
+        spot.inset,
+        y,
+        spot.steps,
+    )
+}
+
+// Rules 1 to 4: where the box goes. The page's bands are looked at and not changed.
+fn spot_of(p: FloatContext, n: usize, a: Ask, min_y: f32, clear: Clear) -> Spot
+    requires { ⌜ n ≡ min (p .count) 96 ⌝ }
+    ensures { λ r. ⌜ ((c : Call) → a ≡ askOf (pageOf p) c → c .minY ≡ «min_y» → clearOf (c .clear) ≡ clear → r ≡ spotOf (pageOf p) c) ⌝ }
+{
+    let left = p.left_bottom;
+    let right = p.right_bottom;
+    let ceiling = p.ceiling;
+    let top = clearing::raise_to(min_y, ceiling);
+    let y = clearing::raise_to(top, clearing::cleared(left, right, clear));
+    let f = first_allowed(
+        p.left_first,
+        p.left_past,
+        p.right_first,
+        p.right_past,
+        n,
+        clear,
+    );
+    let bands = p.bands;
+    search::look(bands, n, f, y, a)
+}
+
 impl FloatContext {
     // Sets the width of a page without boxes: refusals 2, 3 and 4.
     pub fn set_width(self, width: f32) -> Widened
@@ -193,5 +266,44 @@ impl FloatContext {
             answer: Done::Accepted,
             page: q,
         }
+    }
+    // Places a box: refusals 1, 2, 3, 5, 6 and 7, then x, y and the step count.
+    pub fn place_floated_box(
+        self,
+        width: f32,
+        height: f32,
+        min_y: f32,
+        left: f32,
+        right: f32,
+        side: u8,
+        clear: u8,
+    ) -> Placed
+        ensures { λ r. ⌜ r ≡ placeOf self (record { side = side; clear = clear; width = width; height = height; minY = «min_y»; left = left; right = right }) ⌝ }
+    {
+        let w = number::plus_zero(width);
+        let h = number::plus_zero(height);
+        let y = number::plus_zero(min_y);
+        let l = number::plus_zero(left);
+        let r = number::plus_zero(right);
+        let check = refuse::check_box(side, clear, w, h, y, l, r);
+        if let Check::Refused(n) = check {
+            return Placed {
+                answer: PlaceAnswer::Refused(n),
+                page: self,
+            };
+        }
+        if 64 <= self.box_count {
+            return Placed {
+                answer: PlaceAnswer::Refused(Refusal::BoxesFull),
+                page: self,
+            };
+        }
+        let n = number::smaller_n(self.count, 96);
+        let a = ask_of(w, h, self.width, l, r, refuse::side_of(side));
+        let spot = spot_of(self, n, a, y, refuse::clear_of(clear));
+        if h == 0.0 {
+            return flat(self, n, a, spot);
+        }
+        high(self, n, a, spot)
     }
 }
