@@ -73,13 +73,13 @@ pub fn split_bands(bands: [Segment; 96], n: usize, idx: usize, y: f32) -> [Segme
     requires { ⌜ (n < 96) × (idx < n) ⌝ }
     ensures { λ r. ⌜ r ≡ front (splitAt (take n bands) idx y) bands ⌝ }
 {
+    let old = bands[idx];
     let mut q = bands;
     let mut i = n;
     while i > idx + 1 {
         q[i] = q[i - 1];
         i -= 1;
     }
-    let old = bands[idx];
     let mut up = old;
     up.end = y;
     let mut low = old;

@@ -10,10 +10,10 @@ use Rattle.float.proofs.band.split_bands.Statement.{statement}
 use Rattle.float.proofs.band.split_bands.Tie as tie
 
 abbrev Inv-loop : tie.InvT-loop
-Inv-loop n idx y bands q₀ i₀ q i = (idx < i) × (i ≤ n) × Gap (take n bands) q n i × (drop (n + 1) q ≡ drop (n + 1) bands)
+Inv-loop n idx y old q₀ i₀ q i = (idx < i) × (i ≤ n) × Gap (take n q₀) q n i × (drop (n + 1) q ≡ drop (n + 1) q₀)
 
 abbrev μ-loop : tie.MeasureT-loop
-μ-loop n idx y bands q₀ i₀ q i = i
+μ-loop n idx y old q₀ i₀ q i = i
 
 long : (c : tie.Start Inv-loop μ-loop) → c .args .n ≤ length (c .args .t1)
 long c = let l : length (c .args .t1) ≡ 96 = c .good .0 .1 .0 .1 in omega arith
@@ -21,8 +21,17 @@ long c = let l : length (c .args .t1) ≡ 96 = c .good .0 .1 .0 .1 in omega arit
 room : (c : tie.Start Inv-loop μ-loop) → length (take (c .args .n) (c .args .t1)) ≡ c .args .n
 room c = length-take-le _ _ (long c)
 
+mul-old : tie.Need-mul-old Inv-loop μ-loop
+mul-old c = omega arith
+
+array-copy-out-old : tie.Need-array-copy-out-old Inv-loop μ-loop
+array-copy-out-old c = omega arith
+
 loop-holds : tie.Need-loop-holds Inv-loop μ-loop
-loop-holds c = let l : length (c .args .t1) ≡ 96 = c .good .0 .1 .0 .1 in (omega arith, omega arith, gap-start (c .args .t1) (c .args .n) (omega arith), refl)
+loop-holds c =
+    let s = c .before in
+    let l : length (s .args .t1) ≡ 96 = s .good .0 .1 .0 .1 in
+    (omega arith, omega arith, gap-start (s .args .t1) (s .args .n) (omega arith), refl)
 
 add-loop : tie.Need-add-loop Inv-loop μ-loop
 add-loop c = omega arith
@@ -50,15 +59,9 @@ loop-less c = omega arith
 
 loop-again : tie.Need-loop-again Inv-loop μ-loop
 loop-again c =
-    let s = c .before .before .before in
+    let s = c .before .before .before .before in
     let l = c .before .before .loop in
     (omega arith, omega arith, gap-again (take (s .args .n) (s .args .t1)) (l .q) (s .args .n) (l .i) (room s) (omega arith) (omega arith) (l .inv .2) none, drop-set-lt (s .args .n + 1) (l .q) (l .i) _ (omega arith) ∙ l .inv .3)
-
-mul-old : tie.Need-mul-old Inv-loop μ-loop
-mul-old c = omega arith
-
-array-copy-out-old : tie.Need-array-copy-out-old Inv-loop μ-loop
-array-copy-out-old c = omega arith
 
 mul-q-3 : tie.Need-mul-q-3 Inv-loop μ-loop
 mul-q-3 c = omega arith
@@ -78,7 +81,7 @@ array-set-from-q-3 c = omega arith
 returns : tie.Need-returns Inv-loop μ-loop
 returns c =
     let s = c .before .before .before in
-    let l = c .before .before .loop in
+    let l = c .before .loop in
     split-done (s .args .t1) (l .q) (s .args .n) (s .args .idx) (l .i) (s .args .y) (long s) (omega arith) (omega arith) (omega arith) (l .inv .2) (l .inv .3)
 
 pub split-bands-spec : {M : Type 1} → statement M
@@ -87,6 +90,8 @@ split-bands-spec =
     (tie.spec
     Inv-loop
     μ-loop
+    mul-old
+    array-copy-out-old
     loop-holds
     add-loop
     sub-q
@@ -97,8 +102,6 @@ split-bands-spec =
     sub-i
     loop-less
     loop-again
-    mul-old
-    array-copy-out-old
     mul-q-3
     array-set-from-q-2
     add-q

@@ -1,0 +1,19 @@
+-- The argument in the order in which it is told; Promises says what comes of it.
+pub mod Laws
+pub mod Chain
+pub mod Heights
+pub mod Seek
+pub mod Make
+pub mod Parts
+pub mod Input
+pub mod Lists
+pub mod Whole
+pub mod Structs
+pub mod Exact
+pub mod Bands64
+pub mod Apart
+pub mod Whole64
+pub mod Reached
+pub mod Edges
+pub mod Said
+pub mod Promises

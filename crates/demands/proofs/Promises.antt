@@ -1,0 +1,112 @@
+-- The promises over any sequence of calls from a fresh page, and CSS rules 1, 5 and 7. To read them takes the definitions and no other proof.
+use mathlib.Core.Path.{_≡_, refl, sym, subst}
+use Prim.Native.Nat.{ℕ, _+_, _≤_, _<_}
+use mathlib.Core.Bool.{true, not}
+use mathlib.Core.List.{List, map}
+use lib.Dec.{T}
+use lib.Ieee.{Float, inf, binary32, add, sub, lt, le}
+use lib.ListN.{length, getD}
+use Rattle.float.specs.declared.Done.{Done}
+use Rattle.float.specs.declared.FloatContext.{FloatContext}
+use Rattle.float.specs.declared.FloatDirection.{FloatDirection}
+use Rattle.float.specs.declared.PlaceAnswer.{PlaceAnswer}
+use Rattle.float.specs.declared.Refusal.{Refusal}
+use Rattle.float.specs.declared.refuse.Check.{Check}
+use Rattle.float.specs.Refuse.{sideOf}
+use Rattle.float.specs.Bands.{sameSide, other, lead, none}
+use Rattle.float.specs.Page.{Page, pageOf, stored}
+use Rattle.float.specs.Fit.{fits}
+use Rattle.float.specs.Place.{Call, cleaned, numbers, inputCheck, lowest, firstOf, askOf, spotOf, make, place, placedPage, placeOf, setWidth, widthOf, ifDone}
+use Rattle.demands.specs.Runs.{Each, Pairs, Act, box, boxIn, next, run, after, pageIn, bandsIn, Stays, handed, Handed, F32, Whole64, insetAt, NoSmaller, EdgeToEdge, Parted, sideIn, containingLead, containingTrail, sized, shareHeight, overlap, fitsExactly, Joins, Page64}
+use Rattle.demands.proofs.Seek.{no-count}
+use Rattle.demands.proofs.Input.{cleaned-fits}
+use Rattle.demands.proofs.Whole.{StepsTo, spot-ok, place-ok}
+use Rattle.demands.proofs.Structs.{page-placed}
+use Rattle.demands.proofs.Parts.{make-parts}
+use Rattle.demands.proofs.Exact.{fits-idle}
+use Rattle.demands.proofs.Whole64.{known64, ask64}
+use Rattle.demands.proofs.Reached.{reached, grown, reached64}
+use Rattle.demands.proofs.Edges.{seven, apart}
+use Rattle.demands.proofs.Said.{edges, held-inset, no-smaller, passed, page64, joins-ins, joins64, clear-pairs}
+
+-- ---- any numbers: `os` is what was called so far
+
+-- the bands lie edge to edge from minus infinity, no start exceeds its end, and they are at most 96
+pub bands-lie : (os : List Act) → Handed F32 os → EdgeToEdge (inf true) (bandsIn (after os)) × (length (bandsIn (after os)) ≤ 96)
+bands-lie os f = let v = reached os f in (edges (inf true) (bandsIn (after os)) (v .chain), v .count)
+
+-- the page's boxes are those accepted, at most 64
+pub boxes-kept : (os : List Act) → Handed F32 os → (pageIn (after os) .boxes ≡ map boxIn (after os .accepted)) × (length (pageIn (after os) .boxes) ≤ 64)
+boxes-kept os f = let v = reached os f in (v .boxes, v .full)
+
+-- the inset at a height is that of the band that holds it
+pub inset-of-band : (os : List Act) → Handed F32 os → (s : FloatDirection) (h : Float) (i : ℕ) → F32 h → i < length (bandsIn (after os))
+    → T (le (getD (bandsIn (after os)) i none .start) h) → T (lt h (getD (bandsIn (after os)) i none .end)) → insetAt s h (bandsIn (after os)) ≡ lead s (getD (bandsIn (after os)) i none)
+inset-of-band os f = held-inset (bandsIn (after os)) (reached os f .chain)
+
+-- whatever is called after, accepted or refused: at no height does an inset get smaller
+pub no-inset-smaller : (os more : List Act) → Handed F32 os → Handed F32 more → Each Stays more → NoSmaller (bandsIn (after os)) (bandsIn (run (after os) more))
+no-inset-smaller os more f g s =
+    let v = reached os f in
+    let w = grown (after os) more v g s in
+    no-smaller (bandsIn (after os)) (bandsIn (run (after os) more)) (v .chain) (w .0 .chain) (w .1)
+
+-- a further box adds at most two bands
+pub two-bands-more : (os : List Act) (c : Call) → Handed F32 os → Each F32 (handed (box c)) → length (bandsIn (next (after os) (box c))) ≤ length (bandsIn (after os)) + 2
+two-bands-more os c f g = subst (λ (q : Page). length (q .bands) ≤ length (bandsIn (after os)) + 2) (sym (page-placed (after os .struct) c)) (place-ok (pageIn (after os)) (after os .accepted) c (reached os f) g .more)
+
+-- on n bands it takes at most 2n steps
+pub steps-at-most : (os : List Act) (c : Call) → Handed F32 os → Each F32 (handed (box c)) → (x y : Float) (k : ℕ) → placeOf (after os .struct) c .answer ≡ PlaceAnswer.At x y k → k ≤ length (bandsIn (after os)) + length (bandsIn (after os))
+unfolding placeOf
+steps-at-most os c f g x y k e = subst (StepsTo (length (bandsIn (after os)))) e (place-ok (pageIn (after os)) (after os .accepted) c (reached os f) g .steps)
+
+-- every split on the way to the bands that it then marks falls strictly inside its band
+pub splits-inside : (os : List Act) (c : Call) → Handed F32 os → Each F32 (handed (box c)) → inputCheck (cleaned c) ≡ Check.Passed
+    → Parted (bandsIn (after os)) (make (askOf (pageIn (after os)) (cleaned c)) (bandsIn (after os)) (spotOf (pageIn (after os)) (cleaned c)) .bands)
+splits-inside os c f g e =
+    let p = pageIn (after os) in
+    let v = reached os f in
+    make-parts (p .bands) (askOf p (cleaned c)) (firstOf p) (lowest p (cleaned c)) (spotOf p (cleaned c)) (no-count (p .bands)) (v .chain) (spot-ok p (after os .accepted) (cleaned c) v (passed c g e .0) (no-count (p .bands)) tt tt)
+
+-- a refused call hands back the very struct, whichever it was given
+pub refused-box : (p : FloatContext) (c : Call) (n : Refusal) → placeOf p c .answer ≡ PlaceAnswer.Refused n → placeOf p c .page ≡ p
+unfolding placeOf
+refused-box p c n e = subst (λ (a : PlaceAnswer). placedPage a (place (pageOf p) c .page) p ≡ p) (sym e) refl
+
+pub refused-width : (p : FloatContext) (w : Float) (n : Refusal) → widthOf p w .answer ≡ Done.Refused n → widthOf p w .page ≡ p
+unfolding widthOf
+refused-width p w n e = subst (λ (d : Done). ifDone d (stored (setWidth (pageOf p) w) p) p ≡ p) (sym e) refl
+
+-- rule 5: no box is put higher than an earlier one
+pub rule-5 : (os : List Act) → Handed F32 os → Pairs (λ a b. T (le (a .y) (b .y))) (after os .accepted)
+rule-5 os f = reached os f .rises
+
+-- rule 1, of every box: the placed inset is at least the containing lead inset
+pub rule-1 : (os : List Act) → Handed F32 os → Each (λ a. T (le (containingLead a) (a .inset))) (after os .accepted)
+rule-1 os f = reached os f .leads
+
+-- ---- if every number handed in was whole 64ths
+
+-- all numbers that the page then holds are whole 64ths
+pub page-in-64ths : (os : List Act) → Handed F32 os → Handed Whole64 os → Page64 (pageIn (after os))
+page-in-64ths os f s = page64 (pageIn (after os)) (after os .accepted) (reached64 os f s)
+
+-- 0.001 never decides: whatever insets the search asks for, the fit test says the same without it
+pub tolerance-idle : (os : List Act) (c : Call) → Handed F32 os → Handed Whole64 os → Each F32 (handed (box c)) → Each Whole64 (handed (box c)) → inputCheck (cleaned c) ≡ Check.Passed
+    → (lead trail : Float) → Joins (sideOf (c .side)) (bandsIn (after os)) lead → Joins (other (sideOf (c .side))) (bandsIn (after os)) trail
+    → fits (askOf (pageIn (after os)) (cleaned c)) lead trail ≡ fitsExactly (askOf (pageIn (after os)) (cleaned c)) lead trail
+tolerance-idle os c f s g h e l t j i =
+    let p = pageIn (after os) in
+    let d = cleaned c in
+    let v = reached64 os f s in
+    let n = passed c g e in
+    fits-idle (askOf p d) (ask64 p (after os .accepted) d v (n .0) (known64 (numbers d) (cleaned-fits c g) h (n .1) (n .0))) (joins64 (v .bands) j) (joins64 (v .bands) i) (joins-ins (v .inv .chain) j) (joins-ins (v .inv .chain) i)
+
+-- rule 7: beside an earlier box of its side, inset + width is at most page width - containing trail inset
+pub rule-7 : (os : List Act) → Handed F32 os → Handed Whole64 os
+    → Pairs (λ a b. T (sameSide (sideIn a) (sideIn b)) → T (sized a) → T (sized b) → T (shareHeight a b) → T (le (add binary32 (b .inset) (b .call .width)) (sub binary32 (pageIn (after os) .width) (containingTrail b)))) (after os .accepted)
+rule-7 os f s = clear-pairs os f s seven
+
+-- no two accepted boxes of positive size overlap
+pub no-overlap : (os : List Act) → Handed F32 os → Handed Whole64 os → Pairs (λ a b. T (sized a) → T (sized b) → T (not (overlap a b))) (after os .accepted)
+no-overlap os f s = clear-pairs os f s apart

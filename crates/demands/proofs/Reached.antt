@@ -1,0 +1,63 @@
+-- Every page that a run reaches keeps the invariant, and no inset falls on the way: one call after the other.
+use mathlib.Core.Path.{sym, subst}
+use mathlib.Core.List.{List, [], _∷_}
+use lib.Ieee.{Float}
+use Rattle.float.specs.Page.{Page, fresh}
+use Rattle.float.specs.Place.{Call, cleaned, place, placeOf, setWidth}
+use Rattle.demands.specs.Runs.{Each, Act, newPage, width, box, Accepted, Run, noted, started, next, run, pageIn, bandsIn, Stays, handed, Handed, F32, Whole64}
+use Rattle.demands.proofs.Heights.{Grows, grows-refl, grows-trans}
+use Rattle.demands.proofs.Lists.{each-both}
+use Rattle.demands.proofs.Whole.{Inv, fresh-inv, place-ok, wide-ok}
+use Rattle.demands.proofs.Structs.{page-fresh, page-placed, page-widened}
+use Rattle.demands.proofs.Apart.{Inv64}
+use Rattle.demands.proofs.Whole64.{place64, wide64, fresh64}
+
+-- what each call keeps, a run keeps
+run-keeps : (P : Run → Type 0) (A : Act → Type 0) → ((r : Run) (o : Act) → P r → A o → P (next r o)) → (r : Run) (os : List Act) → P r → Each A os → P (run r os)
+unfolding run
+run-keeps P A f r [] p h = p
+run-keeps P A f r (o ∷ os) p h = run-keeps P A f (next r o) os (f r o p (h .0)) (h .1)
+
+-- on the struct as on the page
+module _ (P : Page → List Accepted → Type 0) where
+  abbrev pub In : Run → Type 0
+  In r = P (pageIn r) (r .accepted)
+
+  in-placed : (r : Run) (c : Call) → P (place (pageIn r) c .page) (noted (place (pageIn r) c .answer) (cleaned c) (place (pageIn r) c .page) (r .accepted)) → In (next r (box c))
+  unfolding placeOf
+  in-placed r c h = subst (λ (q : Page). P q (noted (place (pageIn r) c .answer) (cleaned c) q (r .accepted))) (sym (page-placed (r .struct) c)) h
+
+  in-started : P fresh [] → In started
+  in-started h = subst (λ (q : Page). P q []) (sym page-fresh) h
+
+  in-widened : (r : Run) (w : Float) → P (setWidth (pageIn r) w) (r .accepted) → In (next r (width w))
+  in-widened r w h = subst (λ (q : Page). P q (r .accepted)) (sym (page-widened (r .struct) w)) h
+
+-- ---- any f32
+next-inv : (r : Run) (o : Act) → In Inv r → Each F32 (handed o) → In Inv (next r o)
+next-inv r newPage v f = in-started Inv fresh-inv
+next-inv r (width w) v f = in-widened Inv r w (wide-ok (pageIn r) (r .accepted) w v (f .0) .0)
+next-inv r (box c) v f = in-placed Inv r c (place-ok (pageIn r) (r .accepted) c v f .inv)
+
+next-grows : (r : Run) (o : Act) → In Inv r → Each F32 (handed o) → Stays o → Grows (bandsIn r) (bandsIn (next r o))
+next-grows r newPage v f s = absurd s
+next-grows r (width w) v f s = in-widened (λ q l. Grows (bandsIn r) (q .bands)) r w (subst (Grows (bandsIn r)) (sym (wide-ok (pageIn r) (r .accepted) w v (f .0) .1)) (grows-refl (bandsIn r)))
+next-grows r (box c) v f s = in-placed (λ q l. Grows (bandsIn r) (q .bands)) r c (place-ok (pageIn r) (r .accepted) c v f .grows)
+
+pub reached : (os : List Act) → Handed F32 os → In Inv (run started os)
+reached os f = run-keeps (In Inv) (λ o. Each F32 (handed o)) next-inv started os (in-started Inv fresh-inv) f
+
+pub grown : (r : Run) (os : List Act) → In Inv r → Handed F32 os → Each Stays os → In Inv (run r os) × Grows (bandsIn r) (bandsIn (run r os))
+grown r os v f s =
+    run-keeps (λ t. In Inv t × Grows (bandsIn r) (bandsIn t)) (λ o. Each F32 (handed o) × Stays o)
+    (λ t o p h. (next-inv t o (p .0) (h .0), grows-trans (bandsIn r) (bandsIn t) (bandsIn (next t o)) (p .1) (next-grows t o (p .0) (h .0) (h .1))))
+    r os (v, grows-refl (bandsIn r)) (each-both (λ o. Each F32 (handed o)) Stays os f s)
+
+-- ---- whole 64ths
+next64 : (r : Run) (o : Act) → In Inv64 r → Each F32 (handed o) × Each Whole64 (handed o) → In Inv64 (next r o)
+next64 r newPage v f = in-started Inv64 fresh64
+next64 r (width w) v f = in-widened Inv64 r w (wide64 (pageIn r) (r .accepted) w v (f .0 .0) (f .1 .0))
+next64 r (box c) v f = in-placed Inv64 r c (place64 (pageIn r) (r .accepted) c v (f .0) (f .1))
+
+pub reached64 : (os : List Act) → Handed F32 os → Handed Whole64 os → In Inv64 (run started os)
+reached64 os f s = run-keeps (In Inv64) (λ o. Each F32 (handed o) × Each Whole64 (handed o)) next64 started os (in-started Inv64 fresh64) (each-both (λ o. Each F32 (handed o)) (λ o. Each Whole64 (handed o)) os f s)

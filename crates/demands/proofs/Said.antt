@@ -1,0 +1,121 @@
+-- From the invariants to the words of the promises.
+use mathlib.Core.Path.{_≡_, refl, sym, subst}
+use Prim.Native.Nat.{ℕ, _<_}
+use native.Mathlib.Omega.{arith}
+use mathlib.Core.Bool.{Bool, true, false, _&&_, cond}
+use mathlib.Core.List.{List, [], _∷_, map}
+use lib.Dec.{T, ltb}
+use lib.Ieee.{Float, nan, inf, fin, binary32, lt, le}
+use lib.ListN.{length, getD}
+use Rattle.f32_laws.specs.Numbers.{zero+, is64}
+use Rattle.f32_laws.specs.Key.{Num}
+use Rattle.f32_laws.proofs.Keys.{le→key, key→le, lt→key}
+use Rattle.f32_laws.proofs.Is64.{at64-is64}
+use Rattle.float.specs.declared.Bottom.{Bottom}
+use Rattle.float.specs.declared.FloatDirection.{FloatDirection}
+use Rattle.float.specs.declared.PlacedFloatedBox.{PlacedFloatedBox}
+use Rattle.float.specs.declared.Refusal.{Refusal}
+use Rattle.float.specs.declared.Segment.{Segment}
+use Rattle.float.specs.declared.refuse.Check.{Check}
+use Rattle.float.specs.Numbers.{Given, allFinite, allAllowed}
+use Rattle.float.specs.Refuse.{checkOf}
+use Rattle.float.specs.Bands.{lead, none}
+use Rattle.float.specs.Page.{Page}
+use Rattle.float.specs.Place.{Call, cleaned, numbers, inputCheck}
+use Rattle.demands.specs.Runs.{Each, Pairs, Act, box, handed, Handed, F32, Whole64, after, pageIn, Accepted, boxIn, insetAt, NoSmaller, EdgeToEdge, Joins, unjoined, joins, joinsTwo, Bottom64, Page64}
+use Rattle.demands.proofs.Laws.{Ins, ins-zero, larger-ins}
+use Rattle.demands.proofs.Chain.{Chain, chain-at}
+use Rattle.demands.proofs.Heights.{Grows, at-ins, at-is}
+use Rattle.demands.proofs.Input.{Known, known, cleaned-fits, BottomIs}
+use Rattle.demands.proofs.Lists.{each-map, each-both}
+use Rattle.demands.proofs.Exact.{two, Q, q-zero, q-larger}
+use Rattle.demands.proofs.Bands64.{Band64, band-at}
+use Rattle.demands.proofs.Apart.{Beside, Box64, Inv64}
+use Rattle.demands.proofs.Reached.{reached64}
+
+-- ---- bands
+pub edges : (x : Float) (l : List Segment) → Chain x l → EdgeToEdge x l
+edges x [] c = tt
+edges x (b ∷ bs) c = (c .0, key→le (c .1 .start .num) (c .1 .end .num) (c .1 .order), edges (b .end) bs (c .2))
+
+-- NaN lies in no band
+at-nan : (r : FloatDirection) (l : List Segment) → insetAt r nan l ≡ zero+
+unfolding insetAt lt
+at-nan r [] = refl
+at-nan r (b ∷ bs) = at-nan r bs
+
+pub no-smaller : (l m : List Segment) → Chain (inf true) l → Chain (inf true) m → Grows l m → NoSmaller l m
+no-smaller l m c d h r nan f = subst (λ (z : Float). T (le z (insetAt r nan m))) (sym (at-nan r l)) (subst (λ (z : Float). T (le zero+ z)) (sym (at-nan r m)) (key→le (ins-zero .num) (ins-zero .num) (omega arith)))
+no-smaller l m c d h r (inf s) f = key→le (at-ins (inf true) l r (inf s) c .num) (at-ins (inf true) m r (inf s) d .num) (h r (inf s) (record { is = tt }))
+no-smaller l m c d h r (fin s n e) f = key→le (at-ins (inf true) l r (fin s n e) c .num) (at-ins (inf true) m r (fin s n e) d .num) (h r (fin s n e) (record { is = f }))
+
+-- a height above a number is no NaN
+num-below : (h z : Float) → F32 h → T (lt h z) → Num binary32 h
+unfolding lt
+num-below nan z f w = absurd w
+num-below (inf s) z f w = record { is = tt }
+num-below (fin s m e) z f w = record { is = f }
+
+pub held-inset : (l : List Segment) → Chain (inf true) l → (s : FloatDirection) (h : Float) (i : ℕ) → F32 h → i < length l → T (le (getD l i none .start) h) → T (lt h (getD l i none .end)) → insetAt s h l ≡ lead s (getD l i none)
+held-inset l c s h i f o u w =
+    let b = chain-at (inf true) l i c o in
+    let n = num-below h (getD l i none .end) f w in
+    at-is (inf true) l h i s c n o (le→key (b .start .num) n u) (lt→key n (b .end .num) w)
+
+-- ---- a check that passed
+check-passed : (b : Bool) (gs : List Given) → checkOf b gs ≡ Check.Passed → T (allFinite gs) × T (allAllowed gs)
+unfolding checkOf
+check-passed b gs e = go b (allFinite gs) (allAllowed gs) e
+  where
+    go : (b t u : Bool) → cond b (cond t (cond u Check.Passed (Check.Refused Refusal.OutOfLimits)) (Check.Refused Refusal.NotFinite)) (Check.Refused Refusal.UnknownCode) ≡ Check.Passed → T t × T u
+    go true true true e = (tt, tt)
+    go true true false e = absurd (let z : _≡_ {A = ℕ} 0 1 = cc in omega arith)
+    go true false u e = absurd (let z : _≡_ {A = ℕ} 0 1 = cc in omega arith)
+    go false t u e = absurd (let z : _≡_ {A = ℕ} 0 1 = cc in omega arith)
+
+pub passed : (c : Call) → Each F32 (handed (box c)) → inputCheck (cleaned c) ≡ Check.Passed → Each Known (numbers (cleaned c)) × T (allAllowed (numbers (cleaned c)))
+passed c f e = let t = check-passed (ltb (c .side) 2 && ltb (c .clear) 4) (numbers (cleaned c)) e in (known (numbers (cleaned c)) (cleaned-fits c f) (t .0) (t .1), t .1)
+
+-- ---- 64ths
+said64 : (x : Float) → Q x → T (is64 x)
+said64 x q = subst (λ (z : Float). T (is64 z)) (sym (q .is)) (at64-is64 (q .n) (omega (arith, q .high, two)))
+
+bottom64 : (b : Bottom) → BottomIs Q b → Bottom64 b
+bottom64 Bottom.None q = tt
+bottom64 (Bottom.At x) q = said64 x q
+
+boxes64 : (w : Float) (g : List Accepted) → Each (Box64 w) g → Each (λ (b : PlacedFloatedBox). T (is64 (b .width)) × T (is64 (b .height)) × T (is64 (b .«x_inset»)) × T (is64 (b .y))) (map boxIn g)
+boxes64 w [] h = tt
+boxes64 w (a ∷ g) h = ((said64 (a .call .width) (h .0 .width), said64 (a .call .height) (h .0 .height), said64 (a .inset) (h .0 .inset), said64 (a .y) (h .0 .y)), boxes64 w g (h .1))
+
+pub page64 : (p : Page) (g : List Accepted) → Inv64 p g → Page64 p
+page64 p g v = record {
+  width = said64 (p .width) (v .width);
+  bands = each-map Band64 (λ b. T (is64 (b .end)) × T (is64 (b .left)) × T (is64 (b .right))) (p .bands) (λ b q. (said64 (b .end) (q .end), said64 (b .left) (q .inset FloatDirection.Left), said64 (b .right) (q .inset FloatDirection.Right))) (v .bands);
+  boxes = subst (Each (λ b. T (is64 (b .width)) × T (is64 (b .height)) × T (is64 (b .«x_inset»)) × T (is64 (b .y)))) (sym (v .inv .boxes)) (boxes64 (p .width) g (v .boxes));
+  leftBottom = bottom64 (p .leftBottom) (v .bottom FloatDirection.Left);
+  rightBottom = bottom64 (p .rightBottom) (v .bottom FloatDirection.Right);
+  ceiling = bottom64 (p .ceiling) (v .ceiling);
+}
+
+pub joins-ins : {r : FloatDirection} {l : List Segment} {x : Float} → Chain (inf true) l → Joins r l x → Ins x
+joins-ins {r} {l} c unjoined = ins-zero
+joins-ins {r} {l} c (joins i h) = chain-at (inf true) l i c h .inset r
+joins-ins {r} {l} c (joinsTwo p q) = larger-ins (joins-ins c p) (joins-ins c q)
+
+pub joins64 : {r : FloatDirection} {l : List Segment} {x : Float} → Each Band64 l → Joins r l x → Q x
+joins64 {r} {l} d unjoined = q-zero
+joins64 {r} {l} d (joins i h) = band-at l i d h .inset r
+joins64 {r} {l} d (joinsTwo p q) = q-larger (joins64 d p) (joins64 d q)
+
+-- of every two, by what is known of each
+pairs-map : {A : Type 0} (P : A → Type 0) (R S : A → A → Type 0) (l : List A) → ((x y : A) → P x → P y → R x y → S x y) → Each P l → Pairs R l → Pairs S l
+pairs-map P R S [] f h g = tt
+pairs-map P R S (x ∷ l) f h g = (each-map (λ y. P y × R x y) (S x) l (λ y t. f x y (h .0) (t .0) (t .1)) (each-both P (R x) l (h .1) (g .0)), pairs-map P R S l f (h .1) (g .1))
+
+-- what follows of two boxes that are clear of each other, of every two accepted ones
+pub clear-pairs : {S : Float → Accepted → Accepted → Type 0} (os : List Act) → Handed F32 os → Handed Whole64 os → ((w : Float) → Q w → Ins w → (a b : Accepted) → Box64 w a → Box64 w b → Beside w a b → S w a b) → Pairs (S (pageIn (after os) .width)) (after os .accepted)
+clear-pairs {S} os f s h =
+    let v = reached64 os f s in
+    let w = pageIn (after os) .width in
+    pairs-map (Box64 w) (Beside w) (S w) (after os .accepted) (h w (v .width) (v .inv .width)) (v .boxes) (v .beside)

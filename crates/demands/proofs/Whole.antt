@@ -1,0 +1,315 @@
+-- The page's invariant from the fresh page on, for any f32: placing and setting the width keep it, and no inset falls.
+use mathlib.Core.Path.{_≡_, refl, sym, ap, _∙_, subst}
+use mathlib.Core.Logic.{_⊎_, inl, inr}
+use Prim.Native.Nat.{ℕ, _+_, _-_, _≤_, _<_, max}
+use native.Mathlib.Nat.{not-suc-le-zero}
+use native.Mathlib.Decide.{decLe}
+use native.Mathlib.Omega.{arith}
+use mathlib.Core.Bool.{true, _&&_}
+use mathlib.Core.List.{List, [], _∷_, _++_, map, map-append}
+use lib.Dec.{T, ltb, leb, eqb, ltb→lt, leb→le, eqb→eq}
+use lib.Ieee.{Float, inf, binary32, add, le, eq}
+use lib.Ieee.Fits.{and-l, and-r}
+use lib.ListN.{length, getD, length-append}
+use lib.Seq.{getD-append-seam}
+use Rattle.f32_laws.specs.Numbers.{zero+}
+use Rattle.f32_laws.proofs.Tests.{both}
+use Rattle.f32_laws.proofs.Keys.{lt→key, key→le}
+use Rattle.float.specs.declared.Bottom.{Bottom}
+use Rattle.float.specs.declared.Clear.{Clear}
+use Rattle.float.specs.declared.Done.{Done}
+use Rattle.float.specs.declared.FloatDirection.{FloatDirection}
+use Rattle.float.specs.declared.PlaceAnswer.{PlaceAnswer}
+use Rattle.float.specs.declared.PlacedFloatedBox.{PlacedFloatedBox}
+use Rattle.float.specs.declared.Refusal.{Refusal}
+use Rattle.float.specs.declared.Segment.{Segment}
+use Rattle.float.specs.declared.fit.Ask.{Ask}
+use Rattle.float.specs.declared.search.Spot.{Spot}
+use Rattle.float.specs.Numbers.{plusZero, inReach, size, allAllowed}
+use Rattle.float.specs.Refuse.{sideOf, clearOf}
+use Rattle.float.specs.Bands.{onSide, other, none, firstBelow}
+use Rattle.float.specs.Page.{Kept, Page, fresh, noBox, maxBands, maxBoxes}
+use Rattle.float.specs.Clear.{clearedPast}
+use Rattle.float.specs.Place.{Call, cleaned, numbers, Result, lowest, firstOf, firstAllowed, askOf, spotOf, Made, make, keep, recorded, boxOf, counted, xOf, refuse, near, high, flat, put, admitted, checked, place, widthCheck, withWidth, ifDone, setWidth}
+use Rattle.demands.specs.Runs.{Each, Pairs, Accepted, boxIn, lastInset, noted, box, handed, F32, containingLead}
+use Rattle.demands.proofs.Laws.{k, Val, Ins, on-either, ins-zero, ins-val, sum-val, sum-ins, sum-grows}
+use Rattle.demands.proofs.Chain.{Chain, chain-at, chain-mark, length-mark}
+use Rattle.demands.proofs.Heights.{Grows, grows-refl, grows-trans, grows-mark}
+use Rattle.demands.proofs.Seek.{Falls, Asked, Count, no-count, Found, search-law, first-le, first-ge, first-end, first-far}
+use Rattle.demands.proofs.Make.{MadeOk, make-ok}
+use Rattle.demands.proofs.Input.{Known, known, check-both, plus-fits, cleaned-fits, asked, bottomOn, BottomIs, AtMost, lower-is, counted-is, lowest-is, larger-val, ceiling-keeps, ceiling-takes, lowest-over}
+use Rattle.demands.proofs.Lists.{each-append, pairs-append, each-map}
+
+-- ---- the invariant
+abbrev keptOn : FloatDirection → Page → Kept
+keptOn r p = onSide r (p .left) (p .right)
+
+-- an accepted y is at or above the ceiling
+pub record Under (b : Bottom) (a : Accepted) : Type 0 where
+  pub val : Val (a .y)
+  pub under : AtMost (a .y) b
+
+-- from band f on the insets of one of the two sides do not rise
+abbrev pub OneFalls : ℕ → List Segment → Type 0
+OneFalls f l = (r : FloatDirection) → Falls r f l ⊎ Falls (other r) f l
+
+pub record Inv (p : Page) (g : List Accepted) : Type 0 where
+  pub width : Ins (p .width)
+  pub chain : Chain (inf true) (p .bands)
+  pub count : length (p .bands) ≤ maxBands
+  pub full : length (p .boxes) ≤ maxBoxes
+  pub boxes : p .boxes ≡ map boxIn g
+  pub kept : (r : FloatDirection) → keptOn r p .first ≤ keptOn r p .past
+  pub first : firstOf p ≤ length (p .bands)
+  pub falls : OneFalls (firstOf p) (p .bands)
+  pub tops : Each (Under (p .ceiling)) g
+  pub rises : Pairs (λ a b. T (le (a .y) (b .y))) g
+  pub leads : Each (λ a. T (le (containingLead a) (a .inset))) g
+  pub bottom : (r : FloatDirection) → BottomIs Val (bottomOn r p)
+  pub ceiling : BottomIs Val (p .ceiling)
+
+pub fresh-inv : Inv fresh []
+unfolding fresh
+fresh-inv = record {
+  width = ins-zero;
+  chain = tt;
+  count = omega arith;
+  full = omega arith;
+  boxes = refl;
+  kept = λ r. on-either (λ (x : Kept). x .first ≤ x .past) r (omega arith) (omega arith);
+  first = omega arith;
+  falls = λ r. inl (λ i j f h u. absurd (not-suc-le-zero u));
+  bottom = λ r. on-either (BottomIs Val) r tt tt;
+  ceiling = tt;
+  tops = tt;
+  leads = tt;
+  rises = tt;
+}
+
+-- the steps of an answer are at most 2n
+abbrev pub StepsTo : ℕ → PlaceAnswer → Type 0
+StepsTo n (PlaceAnswer.At x y s) = s ≤ n + n
+StepsTo n (PlaceAnswer.Refused m) = Unit {0}
+
+-- what one placement does to a page and its log
+pub record Step (p : Page) (g : List Accepted) (c : Call) (r : Result) : Type 0 where
+  pub inv : Inv (r .page) (noted (r .answer) c (r .page) g)
+  pub grows : Grows (p .bands) (r .page .bands)
+  pub more : length (r .page .bands) ≤ length (p .bands) + 2
+  pub steps : StepsTo (length (p .bands)) (r .answer)
+
+refuse-ok : (p : Page) (g : List Accepted) (c : Call) (n : Refusal) → Inv p g → Step p g c (refuse p n)
+refuse-ok p g c n v = record { inv = v; grows = grows-refl (p .bands); more = omega arith; steps = tt }
+
+-- ---- the two sides
+sides : (q r : FloatDirection) (f : ℕ) (l : List Segment) → Falls q f l ⊎ Falls (other q) f l → Falls r f l ⊎ Falls (other r) f l
+sides FloatDirection.Left FloatDirection.Left f l d = d
+sides FloatDirection.Right FloatDirection.Right f l d = d
+sides FloatDirection.Left FloatDirection.Right f l (inl p) = inr p
+sides FloatDirection.Left FloatDirection.Right f l (inr p) = inl p
+sides FloatDirection.Right FloatDirection.Left f l (inl p) = inr p
+sides FloatDirection.Right FloatDirection.Left f l (inr p) = inl p
+
+firsts : (r : FloatDirection) (L R : Kept) (s e : ℕ) → max (L .first) (R .first) ≤ s → max (onSide r (keep L s e) L .first) (onSide r R (keep R s e) .first) ≡ s
+firsts FloatDirection.Left L R s e h = omega arith
+firsts FloatDirection.Right L R s e h = omega arith
+
+-- ---- a box is counted
+pub last-inset : (p : Page) (a : Ask) (i y : Float) → lastInset (counted p a i y) ≡ i
+last-inset p a i y =
+    let n : length (p .boxes ++ boxOf a i y ∷ []) - 1 ≡ length (p .boxes) = omega (arith, length-append (p .boxes) (boxOf a i y ∷ [])) in
+    ap (λ (j : ℕ). getD (p .boxes ++ boxOf a i y ∷ []) j noBox .«x_inset») n ∙ ap (λ (b : PlacedFloatedBox). b .«x_inset») (getD-append-seam (p .boxes) (boxOf a i y) [] noBox)
+
+module _ (p : Page) (g : List Accepted) (c : Call) (a : Ask) (i x y : Float) (v : Inv p g) (q : Asked a) (w : Val y) (b : T (inReach (add binary32 y (a .height)))) (n : length (p .boxes) < maxBoxes) (h : (z : Float) → AtMost z (p .ceiling) → k z ≤ k y) where
+  bot : Val (add binary32 y (a .height))
+  bot = sum-val w (q .height) b
+
+  counted-as : (e : Accepted) → e .y ≡ y → boxOf a i y ≡ boxIn e → T (le (containingLead e) (e .inset)) → Inv (counted p a i y) (g ++ e ∷ [])
+  counted-as e m o u = record {
+    width = v .width;
+    chain = v .chain;
+    count = v .count;
+    full = omega (arith, length-append (p .boxes) (boxOf a i y ∷ []));
+    boxes = ap (λ (l : List PlacedFloatedBox). l ++ boxOf a i y ∷ []) (v .boxes) ∙ ap (λ (d : PlacedFloatedBox). map boxIn g ++ d ∷ []) o ∙ sym (map-append boxIn g (e ∷ []));
+    kept = v .kept;
+    first = v .first;
+    falls = v .falls;
+    bottom = counted-is Val larger-val p a i y (v .bottom) bot;
+    tops = each-append _ g e
+        (each-map (Under (p .ceiling)) _ g (λ d u. record { val = u .val; under = ceiling-keeps (p .ceiling) (d .y) y (v .ceiling) w (u .under) }) (v .tops))
+        (record { val = ew; under = ceiling-takes (p .ceiling) (e .y) y (v .ceiling) w (omega (arith, ap k m)) });
+    leads = each-append (λ d. T (le (containingLead d) (d .inset))) g e (v .leads) u;
+    rises = pairs-append (λ d d'. T (le (d .y) (d' .y))) g e (v .rises) (each-map (Under (p .ceiling)) (λ d. T (le (d .y) (e .y))) g (λ d u. key→le (u .val .num) (ew .num) (omega (arith, ap k m, h (d .y) (u .under)))) (v .tops));
+    ceiling = lower-is Val larger-val (p .ceiling) (Bottom.At y) (v .ceiling) w;
+  }
+    where
+      ew : Val (e .y)
+      ew = subst Val (sym m) w
+
+  counted-ok : boxOf a i y ≡ boxIn (record { call = c; x = x; y = y; inset = i }) → T (le (containingLead (record { call = c; x = x; y = y; inset = i })) i) → Inv (counted p a i y) (g ++ record { call = c; x = x; y = y; inset = lastInset (counted p a i y) } ∷ [])
+  counted-ok o u = subst (λ (t : Float). Inv (counted p a i y) (g ++ record { call = c; x = x; y = y; inset = t } ∷ [])) (sym (last-inset p a i y)) (counted-as (record { call = c; x = x; y = y; inset = i }) refl o u)
+
+-- ---- a box is recorded
+module _ (p : Page) (g : List Accepted) (a : Ask) (i : Float) (m : Made) (v : Inv p g) (q : Asked a) (w : Ins i) (b : T (inReach (add binary32 i (a .width)))) (n : length (m .bands) ≤ maxBands) (D : Type 0) (o : MadeOk (p .bands) a (firstOf p) i D 2 m) where
+  edge : Ins (add binary32 i (a .width))
+  edge = sum-ins w (q .width) b
+
+  wider : k i ≤ k (add binary32 i (a .width))
+  wider = sum-grows (ins-val w) (q .width)
+
+  same-length : length (recorded p a i m .bands) ≡ length (m .bands)
+  same-length = length-mark _ _ (m .bands) _ _
+
+  recorded-grows : Grows (p .bands) (recorded p a i m .bands)
+  recorded-grows = grows-trans (p .bands) (m .bands) _ (o .grows) (grows-mark _ _ (m .bands) _ _ (λ j u x y. omega (arith, wider, o .covers j u (omega (arith, o .order)) y)))
+
+  recorded-more : length (recorded p a i m .bands) ≤ length (p .bands) + 2
+  recorded-more = omega (arith, same-length, o .more)
+
+  kept-ok : (x : Kept) → x .first ≤ x .past → keep x (m .start) (m .end) .first ≤ keep x (m .start) (m .end) .past
+  kept-ok x h = omega (arith, o .order)
+
+  recorded-ok : Inv (recorded p a i m) g
+  recorded-ok = let f = firsts (a .side) (p .left) (p .right) (m .start) (m .end) (o .first) in record {
+    width = v .width;
+    chain = chain-mark _ _ (inf true) (m .bands) _ _ edge (o .chain);
+    count = omega (arith, same-length);
+    full = v .full;
+    boxes = v .boxes;
+    kept = λ r. on-either K r (on-either K (a .side) (kept-ok (p .left) (v .kept FloatDirection.Left)) (v .kept FloatDirection.Left)) (on-either K (a .side) (v .kept FloatDirection.Right) (kept-ok (p .right) (v .kept FloatDirection.Right)));
+    first = omega (arith, same-length, o .order, o .last);
+    falls = subst (λ (s : ℕ). OneFalls s l) (sym f) (λ r. sides (a .side) r (m .start) l (o .falls (add binary32 i (a .width)) wider));
+    bottom = v .bottom;
+    ceiling = v .ceiling;
+    tops = v .tops;
+    leads = v .leads;
+    rises = v .rises;
+  }
+    where
+      l : List Segment
+      l = recorded p a i m .bands
+
+      K : Kept → Type 0
+      K x = x .first ≤ x .past
+
+-- ---- a placement whose input is in order
+module _ (p : Page) (g : List Accepted) (c : Call) (y0 : Float) (s : Spot) (v : Inv p g) (q : Asked (askOf p c)) (h : (z : Float) → AtMost z (p .ceiling) → k z ≤ k y0) (n : length (p .boxes) < maxBoxes) (H : Count (p .bands)) (f : Found (p .bands) (askOf p c) (firstOf p) y0 H s) where
+  put-ok : Step p g c (put p (askOf p c) s)
+  unfolding put flat high
+  put-ok =
+      both (Step p g c) (eq (c .height) zero+)
+      (λ t. both (Step p g c) (near a (s .inset) (s .y))
+      (λ u. record {
+        inv = counted-ok p g c a (s .inset) (xOf a (s .inset)) (s .y) v q (f .y) (and-l (inReach (add binary32 (s .y) (a .height))) (inReach (add binary32 (s .inset) (a .width))) u) n (λ z o. omega (arith, f .low, h z o)) refl lead;
+        grows = grows-refl (p .bands);
+        more = omega arith;
+        steps = f .steps;
+      })
+      (λ u. refuse-ok p g c Refusal.TooFar v))
+      (λ t. both (Step p g c) (near a (s .inset) (m .y))
+      (λ u. let x = and-l (inReach (add binary32 (m .y) (a .height))) (inReach (add binary32 (s .inset) (a .width))) u in
+      let z = and-r (inReach (add binary32 (m .y) (a .height))) (inReach (add binary32 (s .inset) (a .width))) u in
+      let o = d .1 x in
+      both (Step p g c) (leb (length (m .bands)) maxBands)
+      (λ w. let l = leb→le (length (m .bands)) maxBands w in record {
+        inv = counted-ok (recorded p a (s .inset) m) g c a (s .inset) (xOf a (s .inset)) (m .y) (recorded-ok p g a (s .inset) m v q (f .inset) z l D o) q (d .0 .0) x n (λ z o. omega (arith, f .low, d .0 .1, h z o)) refl lead;
+        grows = recorded-grows p g a (s .inset) m v q (f .inset) z l D o;
+        more = recorded-more p g a (s .inset) m v q (f .inset) z l D o;
+        steps = f .steps;
+      })
+      (λ w. refuse-ok p g c Refusal.BandsFull v))
+      (λ u. refuse-ok p g c Refusal.TooFar v))
+    where
+      a : Ask
+      a = askOf p c
+
+      lead : T (le (a .«cb_lead») (s .inset))
+      lead = key→le (q .cbLead .num) (f .inset .num) (f .cb)
+
+      m : Made
+      m = make a (p .bands) s
+
+      D : Type 0
+      D = s .end < length (p .bands) → k (add binary32 (s .y) (a .height)) ≤ k (getD (p .bands) (s .end) none .end)
+
+      d : (Val (m .y) × (k (s .y) ≤ k (m .y))) × (T (inReach (add binary32 (m .y) (a .height))) → MadeOk (p .bands) a (firstOf p) (s .inset) D 2 m)
+      d = make-ok (p .bands) a (firstOf p) y0 s (v .chain) q (v .falls (a .side)) (v .first) H f
+
+-- ---- what the search finds on such a page
+module _ (p : Page) (g : List Accepted) (c : Call) (v : Inv p g) (n : Each Known (numbers c)) where
+  lowest-val : Val (lowest p c)
+  lowest-val = lowest-is Val larger-val p c (n .1 .1 .0) (v .ceiling) (v .bottom)
+
+  allowed-ok : (d : Clear) → firstOf p ≤ firstAllowed p d
+  unfolding firstAllowed clearedPast
+  allowed-ok Clear.None = omega arith
+  allowed-ok Clear.Left = omega arith
+  allowed-ok Clear.Right = omega arith
+  allowed-ok Clear.Both = omega (arith, v .kept FloatDirection.Left, v .kept FloatDirection.Right)
+
+  pub spot-ok : (H : Count (p .bands)) → H .Ok (askOf p c .«cb_lead») → H .Ok (lowest p c) → Found (p .bands) (askOf p c) (firstOf p) (lowest p c) H (spotOf p c)
+  unfolding spotOf
+  spot-ok H o o' =
+      search-law l (askOf p c) (firstOf p) y H (v .chain) (asked p c (v .width) n) o (firstBelow l m y) (go (decLe m (length l))) (first-le l m y) lowest-val o'
+      (λ h. lt→key (lowest-val .num) (chain-at (inf true) l (firstBelow l m y) (v .chain) h .end .num) (first-end l m y h))
+      (v .falls (sideOf (c .side)))
+    where
+      l : List Segment
+      l = p .bands
+
+      m : ℕ
+      m = firstAllowed p (clearOf (c .clear))
+
+      y : Float
+      y = lowest p c
+
+      go : Dec (m ≤ length l) → firstOf p ≤ firstBelow l m y
+      go (yes d) = omega (arith, first-ge l m y d, allowed-ok (clearOf (c .clear)))
+      go (no d) = omega (arith, first-far l m y (omega arith), v .first)
+
+admitted-ok : (p : Page) (g : List Accepted) (c : Call) → Inv p g → Each Known (numbers c) → Step p g c (admitted p c)
+unfolding admitted
+admitted-ok p g c v n =
+    both (Step p g c) (ltb (length (p .boxes)) maxBoxes)
+    (λ w. put-ok p g c (lowest p c) (spotOf p c) v (asked p c (v .width) n) (lowest-over p c (n .1 .1 .0) (v .ceiling) (v .bottom)) (ltb→lt (length (p .boxes)) maxBoxes w) (no-count (p .bands)) (spot-ok p g c v n (no-count (p .bands)) tt tt))
+    (λ w. refuse-ok p g c Refusal.BoxesFull v)
+
+-- one placement
+pub place-ok : (p : Page) (g : List Accepted) (c : Call) → Inv p g → Each F32 (handed (box c)) → Step p g (cleaned c) (place p c)
+unfolding place checked
+place-ok p g c v f =
+    check-both (Step p g (cleaned c)) (ltb (c .side) 2 && ltb (c .clear) 4) (numbers (cleaned c))
+    (λ t u. admitted-ok p g (cleaned c) v (known (numbers (cleaned c)) (cleaned-fits c f) t u))
+    (λ n. refuse-ok p g (cleaned c) n v)
+
+-- ---- the width: set on a page with no box, or refused
+pub width-both : (P : Done → Type 0) (bs : List PlacedFloatedBox) (w : Float) → F32 w → (Ins w → T (allAllowed (size w ∷ [])) → length bs ≡ 0 → P Done.Accepted) → ((n : Refusal) → P (Done.Refused n)) → P (widthCheck bs w)
+unfolding widthCheck
+width-both P bs w f p q =
+    check-both P true (size w ∷ [])
+    (λ t u. both P (eqb (length bs) 0) (λ x. p (known (size w ∷ []) (f, tt) t u .0) u (eqb→eq (length bs) 0 x)) (λ x. q Refusal.WidthFixed))
+    q
+
+pub wide-ok : (p : Page) (g : List Accepted) (w : Float) → Inv p g → F32 w → Inv (setWidth p w) g × (setWidth p w .bands ≡ p .bands)
+unfolding setWidth
+wide-ok p g w v f =
+    width-both (λ d. Inv (ifDone d (withWidth p (plusZero w)) p) g × (ifDone d (withWidth p (plusZero w)) p .bands ≡ p .bands)) (p .boxes) (plusZero w) (plus-fits w f)
+    (λ i t n. (
+      record {
+        width = i;
+        chain = v .chain;
+        count = v .count;
+        full = v .full;
+        boxes = v .boxes;
+        kept = v .kept;
+        first = v .first;
+        falls = v .falls;
+        bottom = v .bottom;
+        ceiling = v .ceiling;
+        tops = v .tops;
+        leads = v .leads;
+        rises = v .rises;
+      },
+      refl,
+    ))
+    (λ n. (v, refl))

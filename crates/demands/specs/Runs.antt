@@ -1,0 +1,199 @@
+-- Any sequence of calls from a fresh page, the page after it and the placements that it had accepted; and the words of the promises. Definitions only.
+use Prim.Native.Nat.{ℕ, _-_, _<_}
+use mathlib.Core.Path.{_≡_}
+use mathlib.Core.Bool.{Bool, true, false, _&&_, _||_}
+use mathlib.Core.List.{List, [], _∷_, _++_}
+use lib.Dec.{T}
+use lib.Ieee.{Float, binary32, fits as fits-in, add, sub, lt, le, eq}
+use lib.ListN.{length, getD}
+use Rattle.f32_laws.specs.Numbers.{larger, zero+, is64}
+use Rattle.float.specs.declared.Bottom.{Bottom}
+use Rattle.float.specs.declared.FloatContext.{FloatContext}
+use Rattle.float.specs.declared.FloatDirection.{FloatDirection}
+use Rattle.float.specs.declared.PlaceAnswer.{PlaceAnswer}
+use Rattle.float.specs.declared.PlacedFloatedBox.{PlacedFloatedBox}
+use Rattle.float.specs.declared.Segment.{Segment}
+use Rattle.float.specs.declared.fit.Ask.{Ask}
+use Rattle.float.specs.Numbers.{plusZero}
+use Rattle.float.specs.Refuse.{sideOf}
+use Rattle.float.specs.Bands.{onSide, lead, none, splitAt}
+use Rattle.float.specs.Page.{Page, pageOf, freshContext, noBox}
+use Rattle.float.specs.Fit.{placedAt}
+use Rattle.float.specs.Place.{Call, cleaned, inside, placeOf, widthOf}
+
+-- ---- lists
+
+-- P holds of each
+abbrev pub Each : {A : Type 0} → (A → Type 0) → List A → Type 0
+Each P [] = Unit {0}
+Each P (x ∷ xs) = P x × Each P xs
+
+-- P holds of every two, the earlier first
+abbrev pub Pairs : {A : Type 0} → (A → A → Type 0) → List A → Type 0
+Pairs P [] = Unit {0}
+Pairs P (x ∷ xs) = Each (P x) xs × Pairs P xs
+
+-- ---- runs
+
+-- A call that changes a page, with any codes and numbers. Questions and calculators hand back no page.
+pub data Act : Type 0 where
+  newPage : Act
+  width : Float → Act
+  box : Call → Act
+
+-- an accepted placement: the call with plus zero for minus zero, its answer, and the inset that the page keeps of it
+pub record Accepted : Type 0 where
+  pub call : Call
+  pub x : Float
+  pub y : Float
+  pub inset : Float
+
+-- the box that a page keeps of it
+abbrev pub boxIn : Accepted → PlacedFloatedBox
+boxIn a = record { width = a .call .width; height = a .call .height; «x_inset» = a .inset; y = a .y; side = sideOf (a .call .side) }
+
+-- the struct, and the placements accepted since it was fresh
+pub record Run : Type 0 where
+  pub struct : FloatContext
+  pub accepted : List Accepted
+
+-- the placed inset of the page's last box
+abbrev pub lastInset : Page → Float
+lastInset p = getD (p .boxes) (length (p .boxes) - 1) noBox .«x_inset»
+
+-- an accepted call is noted after the earlier ones
+abbrev pub noted : PlaceAnswer → Call → Page → List Accepted → List Accepted
+noted (PlaceAnswer.At x y k) c p l = l ++ record { call = c; x = x; y = y; inset = lastInset p } ∷ []
+noted (PlaceAnswer.Refused n) c p l = l
+
+-- a fresh page, one call, and one after the other
+abbrev pub started : Run
+started = record { struct = freshContext; accepted = [] }
+
+abbrev pub next : Run → Act → Run
+next r newPage = started
+next r (width w) = record { struct = widthOf (r .struct) w .page; accepted = r .accepted }
+next r (box c) = record { struct = placeOf (r .struct) c .page; accepted = noted (placeOf (r .struct) c .answer) (cleaned c) (pageOf (placeOf (r .struct) c .page)) (r .accepted) }
+
+unfoldable pub run : Run → List Act → Run
+run r [] = r
+run r (o ∷ os) = run (next r o) os
+
+-- any sequence of calls from a fresh page
+abbrev pub after : List Act → Run
+after os = run started os
+
+-- the page that the struct holds, and its bands
+abbrev pub pageIn : Run → Page
+pageIn r = pageOf (r .struct)
+
+abbrev pub bandsIn : Run → List Segment
+bandsIn r = pageIn r .bands
+
+-- the same page goes on
+abbrev pub Stays : Act → Type 0
+Stays newPage = ⊥
+Stays (width w) = Unit {0}
+Stays (box c) = Unit {0}
+
+-- ---- what is handed in
+
+abbrev pub handed : Act → List Float
+handed newPage = []
+handed (width w) = w ∷ []
+handed (box c) = c .width ∷ c .height ∷ c .minY ∷ c .left ∷ c .right ∷ []
+
+-- P holds of every number that is handed in
+abbrev pub Handed : (Float → Type 0) → List Act → Type 0
+Handed P os = Each (λ o. Each P (handed o)) os
+
+-- a value of f32, whichever: NaN and the infinities too
+abbrev pub F32 : Float → Type 0
+F32 x = T (fits-in binary32 x)
+
+-- whole 64ths, minus zero read as plus zero
+abbrev pub Whole64 : Float → Type 0
+Whole64 x = T (is64 (plusZero x))
+
+-- ---- bands
+
+-- the inset of a side at a height: that of the first band that ends below it, so of the band that holds it; 0 where no band lies
+unfoldable pub insetAt : FloatDirection → Float → List Segment → Float
+insetAt s h [] = zero+
+insetAt s h (b ∷ bs) = elim (lt h (b .end)) [ true ↦ lead s b | false ↦ insetAt s h bs ]
+
+-- at no height is an inset of the first bands above that of the second
+abbrev pub NoSmaller : List Segment → List Segment → Type 0
+NoSmaller l m = (s : FloatDirection) (h : Float) → F32 h → T (le (insetAt s h l) (insetAt s h m))
+
+-- the bands lie edge to edge from x on, and no start exceeds its end
+abbrev pub EdgeToEdge : Float → List Segment → Type 0
+EdgeToEdge x [] = Unit {0}
+EdgeToEdge x (b ∷ bs) = (b .start ≡ x) × T (le (b .start) (b .end)) × EdgeToEdge (b .end) bs
+
+-- bands that come of l by splits strictly inside a band, and by adding at the end
+pub data Parted (l : List Segment) : List Segment → Type 0 where
+  as-is : Parted l l
+  split : {m : List Segment} (i : ℕ) (y : Float) → Parted l m → i < length m → T (inside (getD m i none) y) → Parted l (splitAt m i y)
+  added : {m : List Segment} (b : Segment) → Parted l m → Parted l (m ++ b ∷ [])
+
+-- ---- accepted placements
+
+-- the side
+abbrev pub sideIn : Accepted → FloatDirection
+sideIn a = sideOf (a .call .side)
+
+-- the containing insets by lead and trail
+abbrev pub containingLead : Accepted → Float
+containingLead a = onSide (sideIn a) (a .call .left) (a .call .right)
+
+abbrev pub containingTrail : Accepted → Float
+containingTrail a = onSide (sideIn a) (a .call .right) (a .call .left)
+
+-- the far edges; on whole 64ths within the limits these sums are exact
+abbrev pub bottom : Accepted → Float
+bottom a = add binary32 (a .y) (a .call .height)
+
+abbrev pub rightEdge : Accepted → Float
+rightEdge a = add binary32 (a .x) (a .call .width)
+
+-- width and height are above zero
+abbrev pub sized : Accepted → Bool
+sized a = lt zero+ (a .call .width) && lt zero+ (a .call .height)
+
+abbrev pub shareHeight : Accepted → Accepted → Bool
+shareHeight a b = lt (a .y) (bottom b) && lt (b .y) (bottom a)
+
+-- the rectangles that the answers give have a point inside in common
+abbrev pub overlap : Accepted → Accepted → Bool
+overlap a b = shareHeight a b && lt (a .x) (rightEdge b) && lt (b .x) (rightEdge a)
+
+-- ---- the fit test with 0.001 left out
+
+abbrev pub passesExactly : Float → Float → Float → Float → Bool
+passesExactly inset far page bound = eq inset zero+ || le far (sub binary32 page bound)
+
+abbrev pub fitsExactly : Ask → Float → Float → Bool
+fitsExactly a lead trail =
+    passesExactly trail (add binary32 (placedAt a lead) (a .width)) (a .page) trail
+    && passesExactly lead (add binary32 (placedAt a lead) (a .width)) (a .page) (a .«cb_trail»)
+
+-- an inset that the search can ask the test for: 0, a band's, or the larger of two such
+pub data Joins (s : FloatDirection) (l : List Segment) : Float → Type 0 where
+  unjoined : Joins s l zero+
+  joins : (i : ℕ) → i < length l → Joins s l (lead s (getD l i none))
+  joinsTwo : {x y : Float} → Joins s l x → Joins s l y → Joins s l (larger x y)
+
+-- ---- a page whose every number is whole 64ths; a band's start is the end above it
+
+abbrev pub Bottom64 : Bottom → Type 0
+Bottom64 Bottom.None = Unit {0}
+Bottom64 (Bottom.At x) = T (is64 x)
+
+pub record Page64 (p : Page) : Type 0 where
+  pub width : T (is64 (p .width))
+  pub bands : Each (λ b. T (is64 (b .end)) × T (is64 (b .left)) × T (is64 (b .right))) (p .bands)
+  pub boxes : Each (λ b. T (is64 (b .width)) × T (is64 (b .height)) × T (is64 (b .«x_inset»)) × T (is64 (b .y))) (p .boxes)
+  pub leftBottom : Bottom64 (p .leftBottom)
+  pub rightBottom : Bottom64 (p .rightBottom)
+  pub ceiling : Bottom64 (p .ceiling)

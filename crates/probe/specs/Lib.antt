@@ -1,0 +1,2 @@
+-- The definitions.
+pub mod Truth

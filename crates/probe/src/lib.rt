@@ -1,0 +1,102 @@
+// The leaves for tests: thin exports of the float crate's functions on numbers, 1 for true and 0 for false. Each takes any f32, a NaN too.
+ghost use mathlib.Core.Path.{_≡_};
+ghost use Rattle.probe.specs.Truth.{bit, fitsAt};
+ghost use Rattle.f32_laws.specs.Numbers.{larger, smaller, «zero+»};
+ghost use Rattle.float.specs.Numbers.{most, least, plusZero, finite, within, inReach};
+use float::FloatDirection;
+use float::fit::Ask;
+
+fn byte(b: bool) -> u8
+    ensures { λ r. ⌜ r ≡ bit b ⌝ }
+{
+    if b { 1 } else { 0 }
+}
+
+#[no_mangle]
+pub extern "C" fn probe_larger(a: f32, b: f32) -> f32
+    ensures { λ r. ⌜ r ≡ larger a b ⌝ }
+{
+    float::number::larger(a, b)
+}
+
+#[no_mangle]
+pub extern "C" fn probe_smaller(a: f32, b: f32) -> f32
+    ensures { λ r. ⌜ r ≡ smaller a b ⌝ }
+{
+    float::number::smaller(a, b)
+}
+
+#[no_mangle]
+pub extern "C" fn probe_plus_zero(x: f32) -> f32
+    ensures { λ r. ⌜ r ≡ plusZero x ⌝ }
+{
+    float::number::plus_zero(x)
+}
+
+#[no_mangle]
+pub extern "C" fn probe_finite(x: f32) -> u8
+    ensures { λ r. ⌜ r ≡ bit (finite x) ⌝ }
+{
+    byte(float::number::finite(x))
+}
+
+#[no_mangle]
+pub extern "C" fn probe_length_allowed(x: f32) -> u8
+    ensures { λ r. ⌜ r ≡ bit (within «zero+» most x) ⌝ }
+{
+    byte(float::number::size_allowed(x))
+}
+
+#[no_mangle]
+pub extern "C" fn probe_offset_allowed(x: f32) -> u8
+    ensures { λ r. ⌜ r ≡ bit (within least most x) ⌝ }
+{
+    byte(float::number::offset_allowed(x))
+}
+
+#[no_mangle]
+pub extern "C" fn probe_reach_allowed(x: f32) -> u8
+    ensures { λ r. ⌜ r ≡ bit (inReach x) ⌝ }
+{
+    byte(float::number::in_reach(x))
+}
+
+// The fit test of a box of this side beside a band: 2 for an unknown side. The height plays no part in it.
+#[no_mangle]
+pub extern "C" fn probe_fits(
+    side: u8,
+    width: f32,
+    page: f32,
+    band_left: f32,
+    band_right: f32,
+    inset_left: f32,
+    inset_right: f32,
+) -> u8
+    ensures { λ r. ⌜ r ≡ fitsAt side width page «band_left» «band_right» «inset_left» «inset_right» ⌝ }
+{
+    match side {
+        0 => {
+            let a = Ask {
+                width: width,
+                height: width,
+                page: page,
+                cb_lead: inset_left,
+                cb_trail: inset_right,
+                side: FloatDirection::Left,
+            };
+            byte(float::fit::fits(a, band_left, band_right))
+        }
+        1 => {
+            let a = Ask {
+                width: width,
+                height: width,
+                page: page,
+                cb_lead: inset_right,
+                cb_trail: inset_left,
+                side: FloatDirection::Right,
+            };
+            byte(float::fit::fits(a, band_right, band_left))
+        }
+        _ => 2,
+    }
+}
