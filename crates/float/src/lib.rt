@@ -1,9 +1,10 @@
 // The float-placement module: one page of floated boxes, the calls that change it and the calls that ask it.
-// A call takes the page by value and hands it back; a refused call hands back the page it was given.
+// A call takes the page by value and hands it back, but `place_in` changes it where it lies; a refused call gives the page it was given.
 mod band;
 mod calculator;
 mod clearing;
 pub mod fit;
+mod inplace;
 pub mod number;
 mod page;
 mod place;
