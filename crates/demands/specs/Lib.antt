@@ -1,3 +1,2 @@
--- Runs defines what the promises speak of; Examples is the table of document 01.
+-- What the promises speak of.
 pub mod Runs
-pub mod Examples

@@ -1,0 +1,6 @@
+pub mod Bytes
+pub mod Record
+pub mod Lines
+pub mod Tape
+pub mod Put
+pub mod Scratch

@@ -1,0 +1,32 @@
+-- Bytes put into a line where it lies, for the contracts of inner functions. Definitions only.
+use Prim.Native.Nat.{ℕ, suc, _+_, _-_, _*_, _≤_, _<_}
+use mathlib.Core.Path.{_≡_}
+use mathlib.Core.Bool.{Bool, cond}
+use mathlib.Core.List.{List, _∷_, _++_}
+use lib.ListN.{length, take, drop}
+use Rattle.float.specs.Page.{front}
+use Rattle.tape.specs.declared.step.State.{State}
+use Rattle.tape.specs.Tape.{Told, run}
+
+-- t was put at i into l, which is then m: r is the place after it, and what stood before i still stands
+pub record Put (l : List ℕ) (i : ℕ) (t m : List ℕ) (r : ℕ) : Type 0 where
+  pub next : r ≡ i + length t
+  pub text : take r m ≡ take i l ++ t
+
+-- t is told: a is what it leaves, and its line of r bytes was put at the front of l, which is then m
+pub record Tells {A : Type 0} (t : Told A) (a : A) (l m : List ℕ) (r : ℕ) : Type 0 where
+  pub after : a ≡ t .after
+  pub line : Put l 0 (t .line) m r
+
+-- the record of the kind k and the body b at the offset i was run: s is the state after it, n the next offset, and its line the first r bytes of l
+pub record Turned (s₀ : State) (k : ℕ) (b : List ℕ) (i : ℕ) (s : State) (n : ℕ) (l : List ℕ) (r : ℕ) : Type 0 where
+  pub goes : (f : ℕ) → run (suc f) i (k ∷ b) s₀ ≡ take r l ++ run f n (drop (n - suc i) b) s
+  pub on : i < n
+  pub within : n ≤ suc i + length b
+  pub fits : r ≤ length l
+
+-- the text t is counted, r bytes, and where w says so it stands at the front of a, which is then b
+pub record Answered (w : Bool) (t a b : List ℕ) (r : ℕ) : Type 0 where
+  pub count : r ≡ length t
+  pub few : r ≤ 80 * 65536
+  pub text : b ≡ cond w (front t a) a

@@ -1,0 +1,113 @@
+-- The tape: what a record does, and the lines of a whole tape. Definitions only.
+use Prim.Native.Nat.{ℕ, zero, suc, _+_}
+use mathlib.Core.Bool.{true, false, _&&_, cond}
+use mathlib.Core.List.{List, [], _∷_, _++_}
+use lib.Dec.{ltb, leb}
+use lib.Ieee.{Float}
+use lib.IntN.{ℤ, pos, negℤ}
+use lib.ListN.{length, drop}
+use Rattle.float.specs.declared.Added.{Added}
+use Rattle.float.specs.declared.AvailableSpace.{AvailableSpace}
+use Rattle.float.specs.declared.CalculatorAnswer.{CalculatorAnswer}
+use Rattle.float.specs.declared.FloatContext.{FloatContext}
+use Rattle.float.specs.declared.Placed.{Placed}
+use Rattle.float.specs.declared.Refusal.{Refusal}
+use Rattle.float.specs.declared.Widened.{Widened}
+use Rattle.float.specs.declared.refuse.Check.{Check}
+use Rattle.float.specs.Numbers.{size, plusZero}
+use Rattle.float.specs.Refuse.{numberOf, checkOf}
+use Rattle.float.specs.Page.{pageOf, front, freshContext}
+use Rattle.float.specs.Place.{placeOf, widthOf}
+use Rattle.float.specs.Slot.{content, bfc}
+use Rattle.float.specs.Calculator.{calculatorOf, addOf, resultOf}
+use Rattle.tape.specs.declared.record.Read.{Read}
+use Rattle.tape.specs.declared.record.Record.{Record}
+use Rattle.tape.specs.declared.step.Calculator.{Calculator}
+use Rattle.tape.specs.declared.step.State.{State}
+use Rattle.tape.specs.Bytes.{float, decimal, row}
+use Rattle.tape.specs.Record.{bodyLen, readOf}
+use Rattle.tape.specs.Lines.{refusedLine, doneLine, placeLine, contentLine, bfcLine}
+
+-- a fresh page, no calculator
+unfoldable pub freshState : State
+freshState = record { page = freshContext; calculator = Calculator.None }
+
+-- what a record leaves, and the line that it prints
+pub record Told (A : Type 0) : Type 0 where
+  pub after : A
+  pub line : List ℕ
+
+abbrev pub told : {A : Type 0} → A → List ℕ → Told A
+told a l = record { after = a; line = l }
+
+abbrev pub onPage : State → FloatContext → List ℕ → Told State
+onPage s p l = told (record { page = p; calculator = s .calculator }) l
+
+abbrev pub widened : State → Widened → Told State
+widened s r = onPage s (r .page) (doneLine 87 (r .answer))
+
+abbrev pub placed : State → Placed → Told State
+placed s r = onPage s (r .page) (placeLine (r .answer))
+
+abbrev pub onCalculator : State → Told Calculator → Told State
+onCalculator s r = told (record { page = s .page; calculator = r .after }) (r .line)
+
+-- S: mode 0 definite, 1 min, 2 max; the number is not read unless definite
+unfoldable pub startOf : ℕ → Float → CalculatorAnswer
+startOf zero w = calculatorOf (AvailableSpace.Definite w)
+startOf (suc zero) w = calculatorOf AvailableSpace.MinContent
+startOf (suc (suc zero)) w = calculatorOf AvailableSpace.MaxContent
+startOf (suc (suc (suc m))) w = CalculatorAnswer.Refused Refusal.UnknownCode
+
+unfoldable pub started : Calculator → CalculatorAnswer → Told Calculator
+started c (CalculatorAnswer.Started new) = told (Calculator.One new) (row 83 [])
+started c (CalculatorAnswer.Refused n) = told c (refusedLine n)
+
+-- A: with no calculator 8, but 1 to 3 are lower
+abbrev pub addedTo : Added → Told Calculator
+addedTo r = told (Calculator.One (r .calculator)) (doneLine 65 (r .answer))
+
+abbrev pub notAdded : Check → Refusal
+notAdded Check.Passed = Refusal.NoCalculator
+notAdded (Check.Refused n) = n
+
+unfoldable pub addTo : Calculator → Float → ℕ → ℕ → Told Calculator
+addTo (Calculator.One c) w side clear = addedTo (addOf c w side clear)
+addTo Calculator.None w side clear = told Calculator.None (refusedLine (notAdded (checkOf (ltb side 2 && ltb clear 4) (size (plusZero w) ∷ []))))
+
+-- I width
+unfoldable pub resultLine : Calculator → List ℕ
+resultLine (Calculator.One c) = row 73 (float (resultOf c) ∷ [])
+resultLine Calculator.None = refusedLine Refusal.NoCalculator
+
+unfoldable pub stepOf : State → Record → Told State
+stepOf s Record.Fresh = told freshState (row 78 [])
+stepOf s (Record.Width w) = widened s (widthOf (s .page) w)
+stepOf s (Record.Place side clear w h y l r) = placed s (placeOf (s .page) (record { side = side; clear = clear; width = w; height = h; minY = y; left = l; right = r }))
+stepOf s (Record.Content y l r clear after) = told s (contentLine (content (pageOf (s .page)) (record { minY = y; left = l; right = r; clear = clear; after = after })))
+stepOf s (Record.Bfc y l r ml mr d clear after) =
+    told s (bfcLine (bfc (pageOf (s .page)) (record { minY = y; left = l; right = r; leftMargin = ml; rightMargin = mr; direction = d; clear = clear; after = after })))
+stepOf s (Record.Start mode w) = onCalculator s (started (s .calculator) (startOf mode w))
+stepOf s (Record.Add w side clear) = onCalculator s (addTo (s .calculator) w side clear)
+stepOf s Record.Result = told s (resultLine (s .calculator))
+
+-- the lines of the part of a tape that begins at the offset i; each record takes a byte at least, so the fuel lasts
+unfoldable pub run : ℕ → ℕ → List ℕ → State → List ℕ
+run zero i t s = []
+run (suc f) i [] s = []
+run (suc f) i (k ∷ body) s =
+    elim (readOf k body) [
+      | Read.Whole r ↦ stepOf s r .line ++ run f (suc (i + bodyLen k)) (drop (bodyLen k) body) (stepOf s r .after)
+      | Read.Broken ↦ row 84 (decimal i ∷ [])
+    ]
+
+-- a tape starts on a fresh page with no calculator; over 65,536 bytes: the one line L
+unfoldable pub linesOf : List ℕ → List ℕ
+linesOf t = elim (leb (length t) 65536) [ true ↦ run (length t) 0 t freshState | false ↦ row 76 [] ]
+
+-- the lines ls and the room a: what is returned, and what then stands in the room; 13, and nothing is written, where it is shorter than they are
+unfoldable pub returned : List ℕ → List ℕ → ℤ
+returned ls a = cond (leb (length ls) (length a)) (pos (length ls)) (negℤ (pos (numberOf Refusal.NoRoom)))
+
+unfoldable pub filled : List ℕ → List ℕ → List ℕ
+filled ls a = cond (leb (length ls) (length a)) (front ls a) a
