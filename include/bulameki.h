@@ -87,15 +87,15 @@ enum bulameki_refusal {
     /* a number is NaN or infinite */
     BULAMEKI_NOT_FINITE = 2,
     /* a number is outside its limits */
-    BULAMEKI_OUTSIDE_LIMITS = 3,
+    BULAMEKI_OUT_OF_LIMITS = 3,
     /* the width is set on a page with an accepted box, even one of no height, even to the same width */
-    BULAMEKI_WIDTH_AFTER_BOX = 4,
+    BULAMEKI_WIDTH_FIXED = 4,
     /* a box comes when 64 boxes stand, both sides together */
-    BULAMEKI_TOO_MANY_BOXES = 5,
+    BULAMEKI_BOXES_FULL = 5,
     /* y plus height, or placed inset plus width, would pass 131,072; for the calculator, a side's sum or both sums */
     BULAMEKI_TOO_FAR = 6,
     /* the placement would need more than 96 bands */
-    BULAMEKI_TOO_MANY_BANDS = 7,
+    BULAMEKI_BANDS_FULL = 7,
     /* the tape adds to, or asks, a calculator not yet started */
     BULAMEKI_NO_CALCULATOR = 8,
     /* the room is shorter than the lines: no line says so, the call returns BULAMEKI_RETURNS_NO_ROOM */

@@ -102,11 +102,11 @@ static float of_bits(uint32_t bits)
 static const char *const refusals[] = {
     [BULAMEKI_UNKNOWN_CODE] = "unknown code",
     [BULAMEKI_NOT_FINITE] = "not finite",
-    [BULAMEKI_OUTSIDE_LIMITS] = "outside its limits",
-    [BULAMEKI_WIDTH_AFTER_BOX] = "width set after a box",
-    [BULAMEKI_TOO_MANY_BOXES] = "too many boxes",
+    [BULAMEKI_OUT_OF_LIMITS] = "outside its limits",
+    [BULAMEKI_WIDTH_FIXED] = "width set after a box",
+    [BULAMEKI_BOXES_FULL] = "too many boxes",
     [BULAMEKI_TOO_FAR] = "too far",
-    [BULAMEKI_TOO_MANY_BANDS] = "too many bands",
+    [BULAMEKI_BANDS_FULL] = "too many bands",
     [BULAMEKI_NO_CALCULATOR] = "no calculator",
 };
 

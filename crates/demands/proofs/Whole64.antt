@@ -8,13 +8,13 @@ use mathlib.Core.List.{List, [], _∷_, map}
 use lib.IntN.{pos}
 use lib.Dec.{T, ltb, lit≤}
 use lib.Ieee.{Float, binary32, le}
-use lib.Ieee.Fits.{and-l, and-r}
+use lib.Ieee.Fits.{and-i, and-l, and-r}
 use lib.ListN.{length}
 use Rattle.f32_laws.specs.Numbers.{zero+, is64}
 use Rattle.f32_laws.specs.Key.{mag}
 use Rattle.f32_laws.specs.Sixty.{g64, mid, half}
 use Rattle.f32_laws.proofs.Tests.{both}
-use Rattle.f32_laws.proofs.Keys.{le→key}
+use Rattle.f32_laws.proofs.Keys.{le→key, key→le}
 use Rattle.f32_laws.proofs.Index64.{at64-key}
 use Rattle.f32_laws.proofs.Is64.{of64}
 use Rattle.float.specs.Numbers.{most, least, plusZero, within, Given, size, offset, value, allowed, allAllowed}
@@ -40,12 +40,12 @@ q-of x f t lo hi =
     let e = ap (λ (z : Float). k z + mid * g) (o .is) ∙ at64-key (o .index) (o .bound) in
     record { n = o .index; is = o .is; low = cancel mid (o .index + half) (omega arith); high = cancel (o .index) (mid + half) (omega arith) }
 
-known-one64 : (d : Given) → F32 (value d) → T (is64 (value d)) → T (allowed d) → Known d → Q (value d)
+known-one64 : (d : Given) → F32 (value d) → (T (within least most (value d)) → T (is64 (value d))) → T (allowed d) → Known d → Q (value d)
 unfolding within
-known-one64 (size x) f t w n = q-of x f t (omega (arith, n .low)) (omega (arith, most-mag, le→key (n .num) most-num (and-r (le zero+ x) (le x most) w)))
-known-one64 (offset x) f t w n = q-of x f t (omega (arith, most-mag, le→key least-num (n .num) (and-l (le least x) (le x most) w))) (omega (arith, most-mag, le→key (n .num) most-num (and-r (le least x) (le x most) w)))
+known-one64 (size x) f t w n = q-of x f (t (and-i (le least x) (le x most) (key→le least-num (n .num) (omega (arith, n .low))) (and-r (le zero+ x) (le x most) w))) (omega (arith, n .low)) (omega (arith, most-mag, le→key (n .num) most-num (and-r (le zero+ x) (le x most) w)))
+known-one64 (offset x) f t w n = q-of x f (t w) (omega (arith, most-mag, le→key least-num (n .num) (and-l (le least x) (le x most) w))) (omega (arith, most-mag, le→key (n .num) most-num (and-r (le least x) (le x most) w)))
 
-pub known64 : (ds : List Given) → Each (λ d. F32 (value d)) ds → Each (λ d. T (is64 (value d))) ds → T (allAllowed ds) → Each Known ds → Each (λ d. Q (value d)) ds
+pub known64 : (ds : List Given) → Each (λ d. F32 (value d)) ds → Each (λ d. T (within least most (value d)) → T (is64 (value d))) ds → T (allAllowed ds) → Each Known ds → Each (λ d. Q (value d)) ds
 unfolding allAllowed
 known64 [] f t w n = tt
 known64 (d ∷ ds) f t w n = (known-one64 d (f .0) (t .0) (and-l (allowed d) (allAllowed ds) w) (n .0), known64 ds (f .1) (t .1) (and-r (allowed d) (allAllowed ds) w) (n .1))

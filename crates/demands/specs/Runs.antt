@@ -14,7 +14,7 @@ use Rattle.float.specs.declared.PlaceAnswer.{PlaceAnswer}
 use Rattle.float.specs.declared.PlacedFloatedBox.{PlacedFloatedBox}
 use Rattle.float.specs.declared.Segment.{Segment}
 use Rattle.float.specs.declared.fit.Ask.{Ask}
-use Rattle.float.specs.Numbers.{plusZero}
+use Rattle.float.specs.Numbers.{most, least, plusZero, within}
 use Rattle.float.specs.Refuse.{sideOf}
 use Rattle.float.specs.Bands.{onSide, lead, none, splitAt}
 use Rattle.float.specs.Page.{Page, pageOf, freshContext, noBox}
@@ -111,9 +111,9 @@ Handed P os = Each (λ o. Each P (handed o)) os
 abbrev pub F32 : Float → Type 0
 F32 x = T (fits-in binary32 x)
 
--- whole 64ths, minus zero read as plus zero
+-- whole 64ths, minus zero read as plus zero; a number beyond every limit is refused, so it may be any
 abbrev pub Whole64 : Float → Type 0
-Whole64 x = T (is64 (plusZero x))
+Whole64 x = T (within least most (plusZero x)) → T (is64 (plusZero x))
 
 -- ---- bands
 

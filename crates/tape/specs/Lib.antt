@@ -3,4 +3,3 @@ pub mod Record
 pub mod Lines
 pub mod Tape
 pub mod Put
-pub mod Scratch
