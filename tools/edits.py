@@ -10,6 +10,7 @@ edit must be proved first. An edit that only makes a proof file unfit for the co
 
 usage: edits.py [NAME[/LABEL] ..]   (from the repository's root; no name: every crate that has edits)
 """
+import itertools
 import os
 import re
 import shutil
@@ -60,13 +61,15 @@ def verdict(said):
 
 
 def first_error(said):
-    """The words of the first error, or of the first need that no proof was found for."""
-    for line in said.splitlines():
+    """The words of the first error that does not only follow from another, or of the first need that no proof was found for."""
+    lines = said.splitlines()
+    for at, line in enumerate(lines):
         found = re.search(r": error: (.*)", line)
-        if found:
-            return found.group(1)
-    for line in said.splitlines():
-        found = re.match(r"note: \S+: (it is not proved that .*)", line)
+        if found and "was not admitted" not in line:
+            rest = [more.strip() for more in itertools.takewhile(lambda more: more.startswith("  "), lines[at + 1:])]
+            return " ".join([found.group(1)] + rest)
+    for line in lines:
+        found = re.match(r"note: \S+/crates/\w+/(\S+: it is not proved that .*)", line)
         if found:
             return found.group(1)
     return "no error was printed"
