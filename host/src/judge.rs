@@ -5,11 +5,11 @@ use crate::tape::{record_at, Record, LONGEST, NONE};
 use crate::{AvailableSpace, Clear, Direction, FloatDirection, Size};
 use std::ops::RangeInclusive;
 
-const LENGTH: RangeInclusive<f32> = 0.0..=65_536.0;
-const OFFSET: RangeInclusive<f32> = -65_536.0..=65_536.0;
-const REACH: f32 = 131_072.0;
-const BOXES: usize = 64;
-const BANDS: usize = 96;
+pub(crate) const LENGTH: RangeInclusive<f32> = 0.0..=65_536.0;
+pub(crate) const OFFSET: RangeInclusive<f32> = -65_536.0..=65_536.0;
+pub(crate) const REACH: f32 = 131_072.0;
+pub(crate) const BOXES: usize = 64;
+pub(crate) const BANDS: usize = 96;
 
 /// The answer to one record.
 #[derive(Debug, Clone, Copy, PartialEq)]
@@ -41,20 +41,20 @@ pub struct Judge {
     pub counts: Counts,
 }
 
-fn side(code: u8) -> Result<FloatDirection, u8> {
+pub(crate) fn side(code: u8) -> Result<FloatDirection, u8> {
     [FloatDirection::Left, FloatDirection::Right].get(usize::from(code)).copied().ok_or(1)
 }
 
-fn clear(code: u8) -> Result<Clear, u8> {
+pub(crate) fn clear(code: u8) -> Result<Clear, u8> {
     [Clear::None, Clear::Left, Clear::Right, Clear::Both].get(usize::from(code)).copied().ok_or(1)
 }
 
-fn direction(code: u8) -> Result<Direction, u8> {
+pub(crate) fn direction(code: u8) -> Result<Direction, u8> {
     [Direction::Ltr, Direction::Rtl].get(usize::from(code)).copied().ok_or(1)
 }
 
 /// Refusal 2 over all numbers, then 3 over all; a minus zero is read as plus zero.
-fn numbers<const N: usize>(given: [(f32, RangeInclusive<f32>); N]) -> Result<[f32; N], u8> {
+pub(crate) fn numbers<const N: usize>(given: [(f32, RangeInclusive<f32>); N]) -> Result<[f32; N], u8> {
     if given.iter().any(|(x, _)| !x.is_finite()) {
         return Err(2);
     }
@@ -64,7 +64,7 @@ fn numbers<const N: usize>(given: [(f32, RangeInclusive<f32>); N]) -> Result<[f3
     Ok(given.map(|(x, _)| if x == 0.0 { 0.0 } else { x }))
 }
 
-fn band_number(after: u16) -> Option<usize> {
+pub(crate) fn band_number(after: u16) -> Option<usize> {
     (after != NONE).then_some(usize::from(after))
 }
 
@@ -222,44 +222,61 @@ impl Answer {
             Answer::Width => to.push(b'W'),
             Answer::Placed { x, y, steps } => {
                 to.push(b'P');
-                hex(to, &[x, y]);
-                to.push(b' ');
-                to.extend(steps.to_string().bytes());
+                hex(to, [x, y]);
+                decimal(to, steps as usize);
             }
             Answer::Content { band, x, y, width } => {
                 to.push(b'C');
                 number_or_dash(to, band);
-                hex(to, &[x, y, width]);
+                hex(to, [x, y, width]);
             }
             Answer::Bfc { band, x, y, border, stretch } => {
                 to.push(b'B');
                 number_or_dash(to, band);
-                hex(to, &[x, y, border, stretch]);
+                hex(to, [x, y, border, stretch]);
             }
             Answer::Started => to.push(b'S'),
             Answer::Added => to.push(b'A'),
             Answer::Intrinsic(width) => {
                 to.push(b'I');
-                hex(to, &[width]);
+                hex(to, [width]);
             }
-            Answer::Refused(number) => to.extend(format!("R {number}").bytes()),
+            Answer::Refused(number) => {
+                to.push(b'R');
+                decimal(to, usize::from(number));
+            }
         }
         to.push(b'\n');
     }
 }
 
-fn hex(to: &mut Vec<u8>, numbers: &[f32]) {
+fn hex<const N: usize>(to: &mut Vec<u8>, numbers: [f32; N]) {
     for number in numbers {
-        to.push(b' ');
         let bits = number.to_bits();
-        to.extend((0..8).rev().map(|place| b"0123456789ABCDEF"[(bits >> (4 * place)) as usize & 15]));
+        let digit = |place: u32| b"0123456789ABCDEF"[(bits >> (4 * place)) as usize & 15];
+        to.extend([b' ', digit(7), digit(6), digit(5), digit(4), digit(3), digit(2), digit(1), digit(0)]);
     }
 }
 
+/// A blank and the number.
+pub(crate) fn decimal(to: &mut Vec<u8>, number: usize) {
+    let mut digits = [b' '; 21];
+    let mut first = digits.len();
+    let mut rest = number;
+    loop {
+        first -= 1;
+        digits[first] = b'0' + (rest % 10) as u8;
+        rest /= 10;
+        if rest == 0 {
+            break;
+        }
+    }
+    to.extend_from_slice(&digits[first - 1..]);
+}
+
 fn number_or_dash(to: &mut Vec<u8>, band: Option<usize>) {
-    to.push(b' ');
     match band {
-        Some(band) => to.extend(band.to_string().bytes()),
-        None => to.push(b'-'),
+        Some(band) => decimal(to, band),
+        None => to.extend(b" -"),
     }
 }

@@ -14,7 +14,11 @@ pub mod archive;
 #[cfg(has_taffy)]
 pub mod driver;
 #[cfg(has_taffy)]
+pub mod job;
+#[cfg(has_taffy)]
 pub mod judge;
+#[cfg(has_taffy)]
+pub mod rows;
 pub mod random;
 pub mod stored;
 pub mod tape;

@@ -23,7 +23,7 @@ pub enum Field {
 }
 
 impl Field {
-    pub fn size(self) -> usize {
+    pub const fn size(self) -> usize {
         match self {
             Field::Length | Field::Offset => 4,
             Field::At => 2,
@@ -63,9 +63,23 @@ pub enum Record {
     Result,
 }
 
+const LENGTHS: [usize; 8] = {
+    let mut lengths = [0; 8];
+    let mut kind = 0;
+    while kind < 8 {
+        let mut field = 0;
+        while field < BODIES[kind].len() {
+            lengths[kind] += BODIES[kind][field].size();
+            field += 1;
+        }
+        kind += 1;
+    }
+    lengths
+};
+
 /// The length of the body that a kind byte announces.
 pub fn body_length(kind: u8) -> Option<usize> {
-    BODIES.get(usize::from(kind)).map(|body| body.iter().map(|field| field.size()).sum())
+    LENGTHS.get(usize::from(kind)).copied()
 }
 
 /// The record at an offset and the offset after it; none for an unknown kind, a cut body and the tape's end.
