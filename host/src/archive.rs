@@ -17,6 +17,19 @@ pub fn panel() -> Option<Runner> {
     None
 }
 
+/// Room that is surely enough for the lines of a tape, as the C header reckons it.
+pub fn room(tape: &[u8]) -> usize {
+    (11 * tape.len()).max(2)
+}
+
+/// The lines of a tape, by a run in such a room.
+pub fn answered(run: Runner, tape: &[u8]) -> Vec<u8> {
+    let mut lent = vec![0; room(tape)];
+    let length = run(tape, &mut lent);
+    lent.truncate(usize::try_from(length).expect("the room is surely enough"));
+    lent
+}
+
 /// Stands in the room before a run, and around it; no line has this byte.
 const GUARD: u8 = 0xEE;
 const MARGIN: usize = 64;
@@ -47,6 +60,34 @@ pub fn difference(run: Runner, tape: &[u8], lines: &[u8], room: usize) -> Option
 pub fn panel_of_nothing() -> i64 {
     // SAFETY: the header allows null where the length is 0.
     unsafe { bulameki_run_tape(std::ptr::null(), 0, std::ptr::null_mut(), 0) }
+}
+
+/// How deep the stack of `bulameki_run_tape` is on a tape, its return address counted: it runs on a painted one.
+#[cfg(has_panel)]
+pub fn panel_stack(tape: &[u8]) -> usize {
+    const PAINT: u8 = 0xA5;
+    let mut room = vec![0; room(tape)];
+    let mut stack = vec![PAINT; 1 << 20];
+    let top = stack.as_mut_ptr_range().end as usize & !15;
+    // SAFETY: the pointers are those of slices of the lengths given; the call finds an aligned stack and leaves it as it was.
+    unsafe {
+        std::arch::asm!(
+            "mov r12, rsp",
+            "mov rsp, {top}",
+            "call {run}",
+            "mov rsp, r12",
+            top = in(reg) top,
+            run = sym bulameki_run_tape,
+            in("rdi") tape.as_ptr(),
+            in("rsi") tape.len(),
+            in("rdx") room.as_mut_ptr(),
+            in("rcx") room.len(),
+            out("r12") _,
+            clobber_abi("C"),
+        );
+    }
+    let untouched = stack.iter().take_while(|byte| **byte == PAINT).count();
+    top - stack.as_ptr() as usize - untouched
 }
 
 /// The leaves on numbers, exported for tests alone.

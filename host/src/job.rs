@@ -1,23 +1,12 @@
 //! The job of `bulameki_run_tape` in plain Rust over the unchanged crate: what the bench measures the archive against.
 //! The crate gives no step count: its lines have 0 there.
 
-use crate::float::{FloatContext, FloatIntrinsicWidthCalculator};
-use crate::judge::{
-    band_number, clear, decimal, direction, numbers, side, Answer, BANDS, BOXES, LENGTH, OFFSET, REACH,
-};
+use crate::call::{Call, Placement, BANDS, BOXES, REACH};
+use crate::float::{BfcSlot, ContentSlot, FloatContext, FloatIntrinsicWidthCalculator};
+use crate::judge::{decimal, Answer};
 use crate::tape::{record_at, Record, LONGEST};
-use crate::{AvailableSpace, Clear, FloatDirection, Size};
+use crate::{AvailableSpace, Clear, FloatDirection};
 use std::cell::RefCell;
-
-/// A placement whose codes and numbers are in order.
-#[derive(Clone, Copy)]
-struct Placement {
-    size: Size<f32>,
-    min_y: f32,
-    insets: [f32; 2],
-    side: FloatDirection,
-    clear: Clear,
-}
 
 /// The crate's calculator hides its sums, which refusal 6 needs: they are kept beside it.
 struct Calculator {
@@ -74,85 +63,56 @@ impl Job {
     }
 
     fn answer(&mut self, record: Record) -> Result<Answer, u8> {
-        Ok(match record {
-            Record::New => {
+        Ok(match Call::of(&record)? {
+            Call::New => {
                 *self = Job::default();
                 Answer::Fresh
             }
-            Record::Width(width) => {
-                [self.width] = match numbers([(width, LENGTH)])? {
-                    _ if !self.accepted.is_empty() => return Err(4),
-                    width => width,
-                };
-                self.page.set_width(self.width);
+            Call::Width(_) if !self.accepted.is_empty() => return Err(4),
+            Call::Width(width) => {
+                self.width = width;
+                self.page.set_width(width);
                 Answer::Width
             }
-            Record::Place { side: s, clear: c, width, height, min_y, insets } => {
-                let (side, clear) = (side(s)?, clear(c)?);
-                let [width, height, min_y, left, right] = numbers([
-                    (width, LENGTH),
-                    (height, LENGTH),
-                    (min_y, OFFSET),
-                    (insets[0], LENGTH),
-                    (insets[1], LENGTH),
-                ])?;
-                self.place(Placement { size: Size { width, height }, min_y, insets: [left, right], side, clear })?
+            Call::Place(placement) => self.place(placement)?,
+            Call::Content { min_y, insets, clear, after } => {
+                let ContentSlot { segment_id: band, x, y, width, .. } =
+                    self.page.find_content_slot(min_y, insets, clear, after);
+                Answer::Content { band, x, y, width }
             }
-            Record::Content { min_y, insets, clear: c, after } => {
-                let clear = clear(c)?;
-                let [min_y, left, right] = numbers([(min_y, OFFSET), (insets[0], LENGTH), (insets[1], LENGTH)])?;
-                let slot = self.page.find_content_slot(min_y, [left, right], clear, band_number(after));
-                Answer::Content { band: slot.segment_id, x: slot.x, y: slot.y, width: slot.width }
+            Call::Bfc { min_y, insets, margins, direction, clear, after } => {
+                let BfcSlot { segment_id: band, x, y, border_width: border, stretch_width: stretch } =
+                    self.page.find_bfc_slot(min_y, insets, margins, direction, clear, after);
+                Answer::Bfc { band, x, y, border, stretch }
             }
-            Record::Bfc { min_y, insets, margins, direction: d, clear: c, after } => {
-                let (direction, clear) = (direction(d)?, clear(c)?);
-                let [min_y, left, right, m_left, m_right] = numbers([
-                    (min_y, OFFSET),
-                    (insets[0], LENGTH),
-                    (insets[1], LENGTH),
-                    (margins[0], OFFSET),
-                    (margins[1], OFFSET),
-                ])?;
-                let after = band_number(after);
-                let slot = self.page.find_bfc_slot(min_y, [left, right], [m_left, m_right], direction, clear, after);
-                let (border, stretch) = (slot.border_width, slot.stretch_width);
-                Answer::Bfc { band: slot.segment_id, x: slot.x, y: slot.y, border, stretch }
-            }
-            Record::Calc { mode, number } => {
-                let (space, sums) = match mode {
-                    0 => (AvailableSpace::Definite(numbers([(number, LENGTH)])?[0]), Some([0.0, 0.0])),
-                    1 => (AvailableSpace::MinContent, None),
-                    2 => (AvailableSpace::MaxContent, Some([0.0, 0.0])),
-                    _ => return Err(1),
-                };
+            Call::Calc(space) => {
+                let sums = (space != AvailableSpace::MinContent).then_some([0.0, 0.0]);
                 self.calculator = Some(Calculator { inner: FloatIntrinsicWidthCalculator::new(space), sums });
                 Answer::Started
             }
-            Record::Add { width, side: s, clear: c } => {
-                let (side, clear) = (side(s)?, clear(c)?);
-                let [width] = numbers([(width, LENGTH)])?;
+            Call::Add { width, side, clear } => {
                 let calculator = self.calculator.as_mut().ok_or(8)?;
                 if let Some(sums) = &mut calculator.sums {
-                    let mut after = *sums;
-                    if matches!(clear, Clear::Left | Clear::Both) {
-                        after[0] = 0.0;
-                    }
-                    if matches!(clear, Clear::Right | Clear::Both) {
-                        after[1] = 0.0;
-                    }
-                    after[side as usize] += width;
-                    // no sum is below 0: where both together stay within the reach, each does
-                    if after[0] + after[1] > REACH {
-                        return Err(6);
-                    }
-                    *sums = after;
+                    *sums = added(*sums, width, side, clear).ok_or(6)?;
                 }
                 calculator.inner.add_float(width, side, clear);
                 Answer::Added
             }
-            Record::Result => Answer::Intrinsic(self.calculator.as_ref().ok_or(8)?.inner.result()),
+            Call::Result => Answer::Intrinsic(self.calculator.as_ref().ok_or(8)?.inner.result()),
         })
     }
+}
+
+/// The two sums with a box added, none if they pass the reach together; no sum is below 0, so each then stays within it too.
+fn added([left, right]: [f32; 2], width: f32, side: FloatDirection, clear: Clear) -> Option<[f32; 2]> {
+    let mut sums = match clear {
+        Clear::None => [left, right],
+        Clear::Left => [0.0, right],
+        Clear::Right => [left, 0.0],
+        Clear::Both => [0.0, 0.0],
+    };
+    sums[side as usize] += width;
+    (sums[0] + sums[1] <= REACH).then_some(sums)
 }
 
 /// Writes all lines of a tape.
@@ -188,4 +148,10 @@ pub fn run(tape: &[u8], room: &mut [u8]) -> i64 {
         lent.copy_from_slice(lines);
         lines.len() as i64
     })
+}
+
+/// Lines without what the crate does not give: the step count at the end of each P.
+pub fn without_steps(lines: &[u8]) -> Vec<String> {
+    let lines = String::from_utf8_lossy(lines);
+    lines.lines().map(|line| if line.starts_with('P') { &line[..19] } else { line }.to_string()).collect()
 }

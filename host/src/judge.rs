@@ -1,15 +1,9 @@
 //! What the crate answers behind document 01's limits and refusals: every line of a tape, from the counted copy of float.rs.
 
+use crate::call::{Call, Placement, BANDS, BOXES, REACH};
 use crate::float_counted::{take_steps, FloatContext, FloatIntrinsicWidthCalculator};
-use crate::tape::{record_at, Record, LONGEST, NONE};
-use crate::{AvailableSpace, Clear, Direction, FloatDirection, Size};
-use std::ops::RangeInclusive;
-
-pub(crate) const LENGTH: RangeInclusive<f32> = 0.0..=65_536.0;
-pub(crate) const OFFSET: RangeInclusive<f32> = -65_536.0..=65_536.0;
-pub(crate) const REACH: f32 = 131_072.0;
-pub(crate) const BOXES: usize = 64;
-pub(crate) const BANDS: usize = 96;
+use crate::tape::{record_at, Record, LONGEST};
+use crate::FloatDirection;
 
 /// The answer to one record.
 #[derive(Debug, Clone, Copy, PartialEq)]
@@ -41,33 +35,6 @@ pub struct Judge {
     pub counts: Counts,
 }
 
-pub(crate) fn side(code: u8) -> Result<FloatDirection, u8> {
-    [FloatDirection::Left, FloatDirection::Right].get(usize::from(code)).copied().ok_or(1)
-}
-
-pub(crate) fn clear(code: u8) -> Result<Clear, u8> {
-    [Clear::None, Clear::Left, Clear::Right, Clear::Both].get(usize::from(code)).copied().ok_or(1)
-}
-
-pub(crate) fn direction(code: u8) -> Result<Direction, u8> {
-    [Direction::Ltr, Direction::Rtl].get(usize::from(code)).copied().ok_or(1)
-}
-
-/// Refusal 2 over all numbers, then 3 over all; a minus zero is read as plus zero.
-pub(crate) fn numbers<const N: usize>(given: [(f32, RangeInclusive<f32>); N]) -> Result<[f32; N], u8> {
-    if given.iter().any(|(x, _)| !x.is_finite()) {
-        return Err(2);
-    }
-    if given.iter().any(|(x, limits)| !limits.contains(x)) {
-        return Err(3);
-    }
-    Ok(given.map(|(x, _)| if x == 0.0 { 0.0 } else { x }))
-}
-
-pub(crate) fn band_number(after: u16) -> Option<usize> {
-    (after != NONE).then_some(usize::from(after))
-}
-
 impl Judge {
     pub fn answer(&mut self, record: &Record) -> Answer {
         let answer = self.decide(record).unwrap_or_else(Answer::Refused);
@@ -86,63 +53,33 @@ impl Judge {
 
     /// The answer, or the lowest refusal that holds; page and calculator change only with an answer.
     fn decide(&mut self, record: &Record) -> Result<Answer, u8> {
-        match *record {
-            Record::New => {
+        match Call::of(record)? {
+            Call::New => {
                 *self = Judge { counts: self.counts, ..Judge::default() };
                 Ok(Answer::Fresh)
             }
-            Record::Width(width) => {
-                let [width] = numbers([(width, LENGTH)])?;
+            Call::Width(width) => {
                 if self.boxes() > 0 {
                     return Err(4);
                 }
                 self.page.set_width(width);
                 Ok(Answer::Width)
             }
-            Record::Place { side: s, clear: c, width, height, min_y, insets } => {
-                let (side, clear) = (side(s)?, clear(c)?);
-                let [width, height, min_y, left, right] = numbers([
-                    (width, LENGTH),
-                    (height, LENGTH),
-                    (min_y, OFFSET),
-                    (insets[0], LENGTH),
-                    (insets[1], LENGTH),
-                ])?;
-                self.place(side, clear, Size { width, height }, min_y, [left, right])
-            }
-            Record::Content { min_y, insets, clear: c, after } => {
-                let clear = clear(c)?;
-                let [min_y, left, right] = numbers([(min_y, OFFSET), (insets[0], LENGTH), (insets[1], LENGTH)])?;
-                let slot = self.page.find_content_slot(min_y, [left, right], clear, band_number(after));
+            Call::Place(placement) => self.place(placement),
+            Call::Content { min_y, insets, clear, after } => {
+                let slot = self.page.find_content_slot(min_y, insets, clear, after);
                 Ok(Answer::Content { band: slot.segment_id, x: slot.x, y: slot.y, width: slot.width })
             }
-            Record::Bfc { min_y, insets, margins, direction: d, clear: c, after } => {
-                let (direction, clear) = (direction(d)?, clear(c)?);
-                let [min_y, left, right, m_left, m_right] = numbers([
-                    (min_y, OFFSET),
-                    (insets[0], LENGTH),
-                    (insets[1], LENGTH),
-                    (margins[0], OFFSET),
-                    (margins[1], OFFSET),
-                ])?;
-                let after = band_number(after);
-                let slot = self.page.find_bfc_slot(min_y, [left, right], [m_left, m_right], direction, clear, after);
+            Call::Bfc { min_y, insets, margins, direction, clear, after } => {
+                let slot = self.page.find_bfc_slot(min_y, insets, margins, direction, clear, after);
                 let (border, stretch) = (slot.border_width, slot.stretch_width);
                 Ok(Answer::Bfc { band: slot.segment_id, x: slot.x, y: slot.y, border, stretch })
             }
-            Record::Calc { mode, number } => {
-                let space = match mode {
-                    0 => AvailableSpace::Definite(numbers([(number, LENGTH)])?[0]),
-                    1 => AvailableSpace::MinContent,
-                    2 => AvailableSpace::MaxContent,
-                    _ => return Err(1),
-                };
+            Call::Calc(space) => {
                 self.calculator = Some(FloatIntrinsicWidthCalculator::new(space));
                 Ok(Answer::Started)
             }
-            Record::Add { width, side: s, clear: c } => {
-                let (side, clear) = (side(s)?, clear(c)?);
-                let [width] = numbers([(width, LENGTH)])?;
+            Call::Add { width, side, clear } => {
                 let mut trial = self.calculator.as_ref().ok_or(8)?.again();
                 trial.add_float(width, side, clear);
                 let [left, right] = trial.sums();
@@ -152,19 +89,12 @@ impl Judge {
                 self.calculator = Some(trial);
                 Ok(Answer::Added)
             }
-            Record::Result => Ok(Answer::Intrinsic(self.calculator.as_ref().ok_or(8)?.result())),
+            Call::Result => Ok(Answer::Intrinsic(self.calculator.as_ref().ok_or(8)?.result())),
         }
     }
 
     /// A placement is tried on a copy of the page, where the crate knows no limit; the copy is kept if 6 and 7 do not hold.
-    fn place(
-        &mut self,
-        side: FloatDirection,
-        clear: Clear,
-        size: Size<f32>,
-        min_y: f32,
-        insets: [f32; 2],
-    ) -> Result<Answer, u8> {
+    fn place(&mut self, Placement { size, min_y, insets, side, clear }: Placement) -> Result<Answer, u8> {
         if self.boxes() == BOXES {
             return Err(5);
         }
@@ -252,8 +182,7 @@ impl Answer {
 
 fn hex<const N: usize>(to: &mut Vec<u8>, numbers: [f32; N]) {
     for number in numbers {
-        let bits = number.to_bits();
-        let digit = |place: u32| b"0123456789ABCDEF"[(bits >> (4 * place)) as usize & 15];
+        let digit = |place: u32| b"0123456789ABCDEF"[(number.to_bits() >> (4 * place)) as usize & 15];
         to.extend([b' ', digit(7), digit(6), digit(5), digit(4), digit(3), digit(2), digit(1), digit(0)]);
     }
 }

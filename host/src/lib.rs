@@ -12,14 +12,16 @@ include!(concat!(env!("OUT_DIR"), "/oracle.rs"));
 pub mod answers;
 pub mod archive;
 #[cfg(has_taffy)]
+pub mod call;
+#[cfg(has_taffy)]
 pub mod driver;
 #[cfg(has_taffy)]
 pub mod job;
 #[cfg(has_taffy)]
 pub mod judge;
+pub mod random;
 #[cfg(has_taffy)]
 pub mod rows;
-pub mod random;
 pub mod stored;
 pub mod tape;
 pub mod tapes;
@@ -29,4 +31,17 @@ use std::io::Write;
 /// Says a line that the test harness does not hold back.
 pub fn say(line: &str) {
     let _ = writeln!(std::io::stderr(), "host: {line}");
+}
+
+/// A number in groups of three digits, for a table.
+pub fn grouped(number: usize) -> String {
+    let digits = number.to_string();
+    let mut grouped = String::new();
+    for (at, digit) in digits.chars().enumerate() {
+        if at > 0 && (digits.len() - at) % 3 == 0 {
+            grouped.push(',');
+        }
+        grouped.push(digit);
+    }
+    grouped
 }

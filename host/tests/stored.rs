@@ -35,6 +35,16 @@ fn crate_gives_them() {
     }
 }
 
+/// So does the program that the bench measures the archive against, but for the step count.
+#[cfg(has_taffy)]
+#[test]
+fn job_gives_them() {
+    use host::job::{run, without_steps};
+    for (name, (tape, lines)) in pairs() {
+        assert_eq!(without_steps(&archive::answered(run, &tape)), without_steps(&lines), "{name}");
+    }
+}
+
 /// In a room to spare, in one that is just enough, and not in one that is a byte too short.
 #[test]
 fn archive_gives_them() {
