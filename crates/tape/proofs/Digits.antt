@@ -99,7 +99,7 @@ pub one-more : (n : ℕ) → 10 ≤ n → decimals n n ≡ suc (decimals (n / 10
 one-more zero h = absurd (omega arith)
 one-more (suc n) h = ten-or-more n (suc n) h ∙ ap suc (enough n (suc n / 10) (suc n / 10) (omega arith) (omega arith))
 
-at-most : (k f n : ℕ) → n < 10 ^ suc k → decimals f n ≤ suc k
+pub at-most : (k f n : ℕ) → n < 10 ^ suc k → decimals f n ≤ suc k
 unfolding decimals
 at-most zero f n h = let u = under-ten f n h in omega arith
 at-most (suc k) zero n h = omega arith

@@ -1,6 +1,7 @@
 -- The loop over a tape: the lines so far, and what is left of it.
 use Prim.Native.Nat.{ℕ, suc, _+_, _-_, _*_, _≤_, _<_}
 use mathlib.Core.Bool.{Bool, true, false, cond}
+use mathlib.Core.Logic.{⊎-elim}
 use mathlib.Core.Path.{_≡_, refl, sym, ap, _∙_}
 use mathlib.Core.List.{List, [], _∷_, _++_, append-nil, append-assoc}
 use native.Mathlib.Numerals.{add-one}
@@ -10,7 +11,7 @@ use lib.ListN.{length, take, drop, getD, length-append, length-drop, drop-of-len
 use lib.Seq.{paste, drop-cons, drop-drop, drop-append-add, take-all, take-append-seam, length-take-le}
 use Rattle.float.specs.Page.{front}
 use Rattle.tape.specs.declared.step.State.{State}
-use Rattle.tape.specs.Put.{Turned, Answered}
+use Rattle.tape.specs.Put.{Turned, Answered, Roomy}
 use Rattle.tape.specs.Tape.{freshState, run, linesOf}
 use Rattle.tape.proofs.Running.{run-none}
 
@@ -22,7 +23,7 @@ pub record Going (t : List ℕ) (w : Bool) (a₀ a : List ℕ) (s : State) (i n 
   pub inside : i ≤ length t
   pub whole : linesOf t ≡ done ++ run fuel i (drop i t) s
   pub count : length done ≡ n
-  pub few : n ≤ 80 * i
+  pub few : n ≤ 11 * i
   pub text : a ≡ cond w (front done a₀) a₀
   pub long : length a ≡ length a₀
 
@@ -81,28 +82,28 @@ module _ (t : List ℕ) (w : Bool) (a₀ : List ℕ) {a l : List ℕ} {s s' : St
   size : length (g .done ++ take r l) ≡ n + r
   size = length-append (g .done) (take r l) ∙ (let e = length-take-le r l (q .fits) in let f = g .count in omega arith)
 
-  pub going-room : (w ≡ true → length (linesOf t) ≤ length a₀) → w ≡ true → n + r ≤ length a
+  pub going-room : (w ≡ true → Roomy t a₀) → w ≡ true → n + r ≤ length a
   going-room k e =
-      let b = k e in
-      let c = ap length next ∙ length-append (g .done ++ take r l) (run left m (drop m t) s') in
-      let d = size in
       let f = g .long in
-      omega arith
+      ⊎-elim
+      (λ x. let c = ap length next ∙ length-append (g .done ++ take r l) (run left m (drop m t) s') in let d = size in omega arith)
+      (λ x. let b = g .few in let d = q .few in let o = on-to in let y = q .on in omega arith)
+      (k e)
 
-  pub going-more : {b : List ℕ} → length l ≡ 80 → length b ≡ length a → b ≡ cond w (paste a n l r) a → Going t w a₀ b s' m (n + r)
-  going-more {b} e k p = record {
+  pub going-more : {b : List ℕ} → length b ≡ length a → b ≡ cond w (paste a n l r) a → Going t w a₀ b s' m (n + r)
+  going-more {b} k p = record {
     done = g .done ++ take r l;
     fuel = left;
     enough = let x = g .enough in let y = q .on in omega arith;
     inside = on-to;
     whole = next;
     count = size;
-    few = let x = g .few in let y = q .fits in let z = q .on in omega arith;
+    few = let x = g .few in let y = q .few in let z = q .on in omega arith;
     text = front-more w (g .done) l a₀ a b r (q .fits) (g .text) (p ∙ ap (λ (x : ℕ). cond w (paste a x l r) a) (sym (g .count)));
     long = k ∙ g .long;
   }
 
-pub going-done : (t : List ℕ) (w : Bool) (a₀ : List ℕ) {a : List ℕ} {s : State} {i n : ℕ} → Going t w a₀ a s i n → length t ≤ i → length t ≤ 65536 → Answered w (linesOf t) a₀ a n
+pub going-done : (t : List ℕ) (w : Bool) (a₀ : List ℕ) {a : List ℕ} {s : State} {i n : ℕ} → Going t w a₀ a s i n → length t ≤ i → length t ≤ 65536 → Answered w t a₀ a n
 going-done t w a₀ {a} {s} {i} {n} g h k =
     let e : linesOf t ≡ g .done = g .whole ∙ ap (λ (x : List ℕ). g .done ++ run (g .fuel) i x s) (drop-of-length-le t h) ∙ ap (λ (x : List ℕ). g .done ++ x) (run-none (g .fuel) i s) ∙ append-nil (g .done) in
     record {

@@ -6,3 +6,4 @@ pub mod Stepping
 pub mod Running
 pub mod Going
 pub mod Room
+pub mod Lengths

@@ -1,7 +1,8 @@
 -- The room for the lines: a tape that is too long, lines that fit, and lines that do not.
-use Prim.Native.Nat.{ℕ, _+_, _≤_, _<_}
+use Prim.Native.Nat.{ℕ, _+_, _/_, _≤_, _<_}
 use mathlib.Core.Bool.{Bool, true, false, cond}
-use mathlib.Core.Path.{_≡_, sym, ap, _∙_}
+use mathlib.Core.Logic.{⊎-elim, inl}
+use mathlib.Core.Path.{_≡_, sym, ap, _∙_, subst}
 use mathlib.Core.List.{List, []}
 use native.Mathlib.Omega.{arith}
 use borrow.Author.Tests.{le-leb, lt-leb}
@@ -13,7 +14,7 @@ use lib.ListN.{length}
 use lib.Seq.{paste}
 use Rattle.float.specs.Page.{front}
 use Rattle.tape.specs.Bytes.{fields, row}
-use Rattle.tape.specs.Put.{Put, Answered}
+use Rattle.tape.specs.Put.{Put, Answered, Roomy}
 use Rattle.tape.specs.Tape.{linesOf, returned, filled}
 use Rattle.tape.proofs.Running.{line-fits}
 use Rattle.tape.proofs.Going.{front-none, front-more}
@@ -23,10 +24,13 @@ unfolding linesOf
 over t h = rw (lt-leb (length t) 65536 h, linesOf)
 
 module _ (t : List ℕ) (w : Bool) (a : List ℕ) {l₀ l : List ℕ} {r : ℕ} (h : 65536 < length t) (p : Put l₀ 0 (row 76 []) l r) where
-  pub over-room : (w ≡ true → length (linesOf t) ≤ length a) → w ≡ true → 0 + r ≤ length a
-  over-room k e = let x = k e in let y = ap length (over t h) in let z = p .next in omega arith
+  pub over-room : (w ≡ true → Roomy t a) → w ≡ true → 0 + r ≤ length a
+  unfolding fields
+  over-room k e =
+      let z = p .next in
+      ⊎-elim (λ x. let y = ap length (over t h) in omega arith) (λ x. omega arith) (k e)
 
-  pub over-answered : {b : List ℕ} → b ≡ cond w (paste a 0 l r) a → Answered w (linesOf t) a b r
+  pub over-answered : {b : List ℕ} → b ≡ cond w (paste a 0 l r) a → Answered w t a b r
   unfolding fields
   over-answered {b} e = record {
     count = let x = p .next in let y = ap length (over t h) in omega arith;
@@ -34,19 +38,28 @@ module _ (t : List ℕ) (w : Bool) (a : List ℕ) {l₀ l : List ℕ} {r : ℕ} 
     text = front-more w [] l a a b r (line-fits p) (front-none w a) e ∙ ap (λ (x : List ℕ). cond w (front x a) a) (p .text ∙ sym (over t h));
   }
 
-module _ (ls a : List ℕ) {b : List ℕ} {r : ℕ} (c : Answered false ls a b r) where
-  pub short : length b < r → (negsuc 12 ≡ returned ls a) × (b ≡ filled ls a)
+module _ (t a : List ℕ) where
+  -- written into the room a, whose lines are known to fit
+  written : {d : List ℕ} {q : ℕ} → length (linesOf t) ≤ length a → Answered true t a d q → (toZ w64 q ≡ returned (linesOf t) a) × (d ≡ filled (linesOf t) a)
   unfolding returned filled
-  short h =
-      let e = lt-leb (length ls) (length a) (let x = ap length (c .text) in let y = c .count in omega arith) in
-      (simp e, simp e (c .text))
-
-  pub enough : r ≤ length b → length ls ≤ length b
-  enough h = let x = c .count in omega arith
-
-  pub answered : {d : List ℕ} {q : ℕ} → r ≤ length b → Answered true ls b d q → (toZ w64 q ≡ returned ls a) × (d ≡ filled ls a)
-  unfolding returned filled
-  answered {d} {q} h k =
-      let e = le-leb (length ls) (length a) (let x = ap length (c .text) in let y = c .count in omega arith) in
+  written {d} {q} h k =
+      let e = le-leb (length (linesOf t)) (length a) h in
       let f = k .few in
-      (simp e (toZ-pos w64 q (omega arith) ∙ ap pos (k .count)), simp e (k .text ∙ ap (λ (x : List ℕ). front ls x) (c .text)))
+      (simp e (toZ-pos w64 q (omega arith) ∙ ap pos (k .count)), simp e (k .text))
+
+  pub at-once : {d : List ℕ} {q : ℕ} → length t ≤ length a / 11 → Answered true t a d q → (toZ w64 q ≡ returned (linesOf t) a) × (d ≡ filled (linesOf t) a)
+  at-once h k = written (let x = k .count in let y = k .few in omega arith) k
+
+  module _ {b : List ℕ} {r : ℕ} (c : Answered false t a b r) where
+    pub short : length b < r → (negsuc 12 ≡ returned (linesOf t) a) × (b ≡ filled (linesOf t) a)
+    unfolding returned filled
+    short h =
+        let e = lt-leb (length (linesOf t)) (length a) (let x = ap length (c .text) in let y = c .count in omega arith) in
+        (simp e, simp e (c .text))
+
+    pub enough : r ≤ length b → Roomy t b
+    enough h = inl (let x = c .count in omega arith)
+
+    pub counted : {d : List ℕ} {q : ℕ} → r ≤ length b → Answered true t b d q → (toZ w64 q ≡ returned (linesOf t) a) × (d ≡ filled (linesOf t) a)
+    counted {d} {q} h k =
+        written (let x = ap length (c .text) in let y = c .count in omega arith) (subst (λ (x : List ℕ). Answered true t x d q) (c .text) k)

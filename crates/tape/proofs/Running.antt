@@ -1,6 +1,7 @@
 -- A run, record by record: what one turn does to the lines that are left.
 use Prim.Native.Nat.{ℕ, zero, suc, _+_, _-_, _≤_, _<_}
 use mathlib.Core.Bool.{Bool, true, false, _&&_, cond}
+use mathlib.Core.Logic.{⊎-elim}
 use mathlib.Core.Path.{_≡_, refl, sym, ap, _∙_}
 use mathlib.Core.List.{List, [], _∷_, _++_, append-nil}
 use native.Mathlib.Numerals.{add-one}
@@ -16,6 +17,7 @@ use Rattle.tape.specs.Bytes.{decimal, row}
 use Rattle.tape.specs.Put.{Put, Tells, Turned}
 use Rattle.tape.specs.Record.{bodyLen, recordOf, readOf}
 use Rattle.tape.specs.Tape.{stepOf, run}
+use Rattle.tape.proofs.Lengths.{by-kind, length-offset}
 
 -- a body that was read is whole
 passed : (t : Bool) (x : Record) {r : Record} → cond t (Read.Whole x) Read.Broken ≡ Read.Whole r → t ≡ true
@@ -29,6 +31,14 @@ second false b e = let z : _≡_ {A = ℕ} 0 1 = cc in absurd (omega arith)
 pub body-fits : (k : ℕ) (b : List ℕ) {r : Record} → readOf k b ≡ Read.Whole r → bodyLen k ≤ length b
 unfolding readOf
 body-fits k b e = leb-true (bodyLen k) (length b) (second (ltb k 8) (leb (bodyLen k) (length b)) (passed (ltb k 8 && leb (bodyLen k) (length b)) (recordOf k b) e))
+
+same-record : (t : Bool) (x : Record) {r : Record} → cond t (Read.Whole x) Read.Broken ≡ Read.Whole r → r ≡ x
+same-record true x e = cc
+same-record false x e = let z : _≡_ {A = ℕ} 0 1 = cc in absurd (omega arith)
+
+is-record : (k : ℕ) (b : List ℕ) {r : Record} → readOf k b ≡ Read.Whole r → r ≡ recordOf k b
+unfolding readOf
+is-record k b e = same-record (ltb k 8 && leb (bodyLen k) (length b)) (recordOf k b) e
 
 -- a line at the front: its bytes, and that they fit
 pub line-of : {l₀ l t : List ℕ} {r : ℕ} → Put l₀ 0 t l r → take r l ≡ t
@@ -51,8 +61,8 @@ module _ (s₀ : State) (k : ℕ) (b : List ℕ) (i : ℕ) where
   unfolding run
   goes-broken f e = rw (e, run)
 
-  pub turned-whole : {r : Record} {s : State} {l₀ l : List ℕ} {m len : ℕ} → readOf k b ≡ Read.Whole r → Tells (stepOf s₀ r) s l₀ l len → m ≡ bodyLen k → Turned s₀ k b i s (i + 1 + m) l len
-  turned-whole {r} {s} {l₀} {l} {m} {len} e t h = record {
+  pub turned-whole : {r : Record} {s : State} {l₀ l : List ℕ} {m len : ℕ} → length l ≡ 80 → readOf k b ≡ Read.Whole r → Tells (stepOf s₀ r) s l₀ l len → m ≡ bodyLen k → Turned s₀ k b i s (i + 1 + m) l len
+  turned-whole {r} {s} {l₀} {l} {m} {len} q e t h = record {
     goes = λ f.
         let a : suc (i + bodyLen k) ≡ i + 1 + m = omega arith in
         let d : bodyLen k ≡ i + 1 + m - suc i = omega arith in
@@ -63,10 +73,15 @@ module _ (s₀ : State) (k : ℕ) (b : List ℕ) (i : ℕ) where
     on = omega arith;
     within = let g = body-fits k b e in omega arith;
     fits = line-fits (t .line);
+    few =
+        let a = line-fits (t .line) in
+        let d = t .line .next in
+        let o = is-record k b e in
+        ⊎-elim (λ x. omega arith) (λ x. let y = ap (λ (z : Record). length (stepOf s₀ z .line)) o in omega arith) (by-kind s₀ k b);
   }
 
-  pub turned-broken : {l₀ l : List ℕ} {len : ℕ} → readOf k b ≡ Read.Broken → Put l₀ 0 (row 84 (decimal i ∷ [])) l len → Turned s₀ k b i s₀ (i + 1 + length b) l len
-  turned-broken {l₀} {l} {len} e p = record {
+  pub turned-broken : {l₀ l : List ℕ} {len : ℕ} → i < 65536 → readOf k b ≡ Read.Broken → Put l₀ 0 (row 84 (decimal i ∷ [])) l len → Turned s₀ k b i s₀ (i + 1 + length b) l len
+  turned-broken {l₀} {l} {len} q e p = record {
     goes = λ f.
         goes-broken f e
         ∙ sym (line-of p)
@@ -75,6 +90,7 @@ module _ (s₀ : State) (k : ℕ) (b : List ℕ) (i : ℕ) where
     on = omega arith;
     within = omega arith;
     fits = line-fits p;
+    few = let a = p .next in let d = length-offset i q in omega arith;
   }
 
 -- ---- copying a line

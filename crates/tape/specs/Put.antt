@@ -1,12 +1,13 @@
 -- Bytes put into a line where it lies, for the contracts of inner functions. Definitions only.
-use Prim.Native.Nat.{ℕ, suc, _+_, _-_, _*_, _≤_, _<_}
+use Prim.Native.Nat.{ℕ, suc, _+_, _-_, _*_, min, _≤_, _<_}
+use mathlib.Core.Logic.{_⊎_}
 use mathlib.Core.Path.{_≡_}
 use mathlib.Core.Bool.{Bool, cond}
 use mathlib.Core.List.{List, _∷_, _++_}
 use lib.ListN.{length, take, drop}
 use Rattle.float.specs.Page.{front}
 use Rattle.tape.specs.declared.step.State.{State}
-use Rattle.tape.specs.Tape.{Told, run}
+use Rattle.tape.specs.Tape.{Told, run, linesOf}
 
 -- t was put at i into l, which is then m: r is the place after it, and what stood before i still stands
 pub record Put (l : List ℕ) (i : ℕ) (t m : List ℕ) (r : ℕ) : Type 0 where
@@ -24,9 +25,14 @@ pub record Turned (s₀ : State) (k : ℕ) (b : List ℕ) (i : ℕ) (s : State) 
   pub on : i < n
   pub within : n ≤ suc i + length b
   pub fits : r ≤ length l
+  pub few : r ≤ 11 * (n - i)
 
--- the text t is counted, r bytes, and where w says so it stands at the front of a, which is then b
+-- the lines of the tape t are counted, r bytes, and where w says so they stand at the front of a, which is then b
 pub record Answered (w : Bool) (t a b : List ℕ) (r : ℕ) : Type 0 where
-  pub count : r ≡ length t
-  pub few : r ≤ 80 * 65536
-  pub text : b ≡ cond w (front t a) a
+  pub count : r ≡ length (linesOf t)
+  pub few : r ≤ 11 * min (length t) 65536
+  pub text : b ≡ cond w (front (linesOf t) a) a
+
+-- the lines of the tape t can be written into a: they are known to fit, or there are eleven bytes for each byte of the tape
+abbrev pub Roomy : List ℕ → List ℕ → Type 0
+Roomy t a = (length (linesOf t) ≤ length a) ⊎ (11 * length t ≤ length a)

@@ -12,8 +12,7 @@ ghost use mathlib.Core.Path.{_≡_};
 ghost use Prim.Native.Nat.{_+_, _*_, _≤_};
 ghost use lib.ListN.{length};
 ghost use lib.Seq.{paste};
-ghost use Rattle.tape.specs.Put.{Turned, Answered};
-ghost use Rattle.tape.specs.Tape.{linesOf};
+ghost use Rattle.tape.specs.Put.{Turned, Answered, Roomy};
 
 // The state after a record, the offset of the next, and the length of its line.
 struct Ran {
@@ -24,7 +23,7 @@ struct Ran {
 
 // A broken record ends the tape: no byte is left after it.
 fn turn(state: State, kind: u8, body: &[u8], at: usize, line: &mut [u8]) -> Ran
-    requires { ⌜ (64 ≤ length (now line)) × (at + 1 + length (now body) ≤ 65536) ⌝ }
+    requires { ⌜ (length (now line) ≡ 80) × (at + 1 + length (now body) ≤ 65536) ⌝ }
     ensures { λ r. ⌜ Turned state kind (now (body .entry)) at (r .state) (r .next) (now (line .exit)) (r .len) ⌝ }
 {
     let read = read_record(kind, body);
@@ -60,8 +59,8 @@ fn put_line(answers: &mut [u8], to: usize, line: &[u8], len: usize, writing: boo
 }
 
 fn records(tape: &[u8], answers: &mut [u8], writing: bool) -> usize
-    requires { ⌜ (length (now tape) ≤ 65536) × (writing ≡ true → length (linesOf (now tape)) ≤ length (now answers)) ⌝ }
-    ensures { λ r. ⌜ Answered writing (linesOf (now (tape .entry))) (now (answers .entry)) (now (answers .exit)) r ⌝ }
+    requires { ⌜ (length (now tape) ≤ 65536) × (writing ≡ true → Roomy (now tape) (now answers)) ⌝ }
+    ensures { λ r. ⌜ Answered writing (now (tape .entry)) (now (answers .entry)) (now (answers .exit)) r ⌝ }
 {
     let mut line = [0u8; 80];
     let mut state = fresh_state();
@@ -80,8 +79,8 @@ fn records(tape: &[u8], answers: &mut [u8], writing: bool) -> usize
 
 // Counts the bytes of the lines, and writes them where it is to.
 pub fn lines(tape: &[u8], answers: &mut [u8], writing: bool) -> usize
-    requires { ⌜ (writing ≡ true → length (linesOf (now tape)) ≤ length (now answers)) ⌝ }
-    ensures { λ r. ⌜ Answered writing (linesOf (now (tape .entry))) (now (answers .entry)) (now (answers .exit)) r ⌝ }
+    requires { ⌜ (writing ≡ true → Roomy (now tape) (now answers)) ⌝ }
+    ensures { λ r. ⌜ Answered writing (now (tape .entry)) (now (answers .entry)) (now (answers .exit)) r ⌝ }
 {
     if tape.len() <= 65536 {
         return records(tape, answers, writing);

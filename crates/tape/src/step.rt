@@ -67,9 +67,9 @@ fn start_of(mode: u8, number: f32) -> CalculatorAnswer
     }
 }
 
-fn start(calculator: Calculator, mode: u8, number: f32, line: &mut [u8]) -> Reckoned
+fn start(old: Calculator, mode: u8, number: f32, line: &mut [u8]) -> Reckoned
     requires { ⌜ 64 ≤ length (now line) ⌝ }
-    ensures { λ r. ⌜ Tells (started calculator (startOf mode number)) (r .calculator) (now (line .entry)) (now (line .exit)) (r .len) ⌝ }
+    ensures { λ r. ⌜ Tells (started old (startOf mode number)) (r .calculator) (now (line .entry)) (now (line .exit)) (r .len) ⌝ }
 {
     let answer = start_of(mode, number);
     match answer {
@@ -78,7 +78,7 @@ fn start(calculator: Calculator, mode: u8, number: f32, line: &mut [u8]) -> Reck
             len: letter_line(line, b'S'),
         },
         CalculatorAnswer::Refused(n) => Reckoned {
-            calculator: calculator,
+            calculator: old,
             len: refused_line(line, n),
         },
     }

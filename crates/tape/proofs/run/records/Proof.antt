@@ -48,7 +48,7 @@ turn-requires c κs =
     let l = c .before .before .before .before .loop in
     let x = length-take (length (now (s .args .tape)) - (l .at + 1)) (drop (l .at + 1) (now (s .args .tape))) in
     let y = length-drop (l .at + 1) (now (s .args .tape)) in
-    (omega (arith, l .inv .1), omega (arith, s .pre .0, c .before .before .before .loop-test .taken))
+    (l .inv .1, omega (arith, s .pre .0, c .before .before .before .loop-test .taken))
 
 slice-aggregate-put-line : tie.Need-slice-aggregate-put-line Inv-loop μ-loop
 slice-aggregate-put-line c = search needs
@@ -77,7 +77,7 @@ loop-again c =
     let l = c .before .before .before .before .before .before .before .before .before .before .before .before .before .loop in
     let t = c .before .before .before .before .before .before .before .before .turn in
     let p = c .before .before .before .before .put-line in
-    (going-more _ _ _ (l .inv .0) (c .before .before .before .before .before .before .before .before .before .before .before .before .loop-test .taken) (t .ensures) (t .kept .1 .1 .1 .1 .0 ∙ l .inv .1) (p .kept .0) (p .ensures), t .kept .1 .1 .1 .1 .0 ∙ l .inv .1)
+    (going-more _ _ _ (l .inv .0) (c .before .before .before .before .before .before .before .before .before .before .before .before .loop-test .taken) (t .ensures) (p .kept .0) (p .ensures), t .kept .1 .1 .1 .1 .0 ∙ l .inv .1)
 
 same-length : tie.Need-same-length Inv-loop μ-loop
 same-length c = c .before .loop .inv .0 .long

@@ -42,13 +42,13 @@ same-length : tie.Need-same-length
 same-length c = search needs
 
 returns : tie.Need-returns
-returns c = turned-whole _ _ _ _ (sym (c .before .before .before .before .before .before .before .before .before .read-record .ensures) ∙ c .before .before .before .before .before .before .before .read .given .1) (c .before .before .before .before .step .ensures) (c .body-len .ensures)
+returns c = turned-whole _ _ _ _ (c .before .before .before .before .step .kept .1 .1 .0 ∙ c .before .before .before .before .before .before .before .before .before .before .before .before .pre .0) (sym (c .before .before .before .before .before .before .before .before .before .read-record .ensures) ∙ c .before .before .before .before .before .before .before .read .given .1) (c .before .before .before .before .step .ensures) (c .body-len .ensures)
 
 same-length-2 : tie.Need-same-length-2
 same-length-2 c = search needs
 
 returns-2 : tie.Need-returns-2
-returns-2 c = turned-broken _ _ _ _ (sym (c .before .before .before .before .before .before .read-record .ensures) ∙ c .before .before .before .before .enum-told .given .1) (c .before .before .number-line .ensures)
+returns-2 c = turned-broken _ _ _ _ (omega (arith, c .before .before .before .before .before .before .before .before .before .pre .1)) (sym (c .before .before .before .before .before .before .read-record .ensures) ∙ c .before .before .before .before .enum-told .given .1) (c .before .before .number-line .ensures)
 
 pub turn-spec : {M : Type 1} → statement M
 turn-spec =
