@@ -6,7 +6,7 @@ use mathlib.Core.Path.{_≡_, refl, sym, ap, _∙_}
 use mathlib.Core.List.{List, [], _∷_, _++_, append-nil}
 use native.Mathlib.Numerals.{add-one}
 use native.Mathlib.Omega.{arith}
-use borrow.Author.Tests.{leb-true}
+use borrow.Author.Tests.{ltb-true, leb-true}
 use lib.Dec.{ltb, leb}
 use lib.ListN.{length, take, drop, getD, set, length-take, drop-of-length-le}
 use lib.Seq.{paste, paste-suc}
@@ -14,7 +14,7 @@ use Rattle.tape.specs.declared.record.Read.{Read}
 use Rattle.tape.specs.declared.record.Record.{Record}
 use Rattle.tape.specs.declared.step.State.{State}
 use Rattle.tape.specs.Bytes.{decimal, row}
-use Rattle.tape.specs.Put.{Put, Tells, Turned}
+use Rattle.tape.specs.Put.{Put, Tells, Turned, keeps}
 use Rattle.tape.specs.Record.{bodyLen, recordOf, readOf}
 use Rattle.tape.specs.Tape.{stepOf, run}
 use Rattle.tape.proofs.Lengths.{by-kind, length-offset}
@@ -23,6 +23,10 @@ use Rattle.tape.proofs.Lengths.{by-kind, length-offset}
 passed : (t : Bool) (x : Record) {r : Record} → cond t (Read.Whole x) Read.Broken ≡ Read.Whole r → t ≡ true
 passed true x e = refl
 passed false x e = let z : _≡_ {A = ℕ} 0 1 = cc in absurd (omega arith)
+
+first : (a b : Bool) → a && b ≡ true → a ≡ true
+first true b e = refl
+first false b e = e
 
 second : (a b : Bool) → a && b ≡ true → b ≡ true
 second true b e = e
@@ -39,6 +43,25 @@ same-record false x e = let z : _≡_ {A = ℕ} 0 1 = cc in absurd (omega arith)
 is-record : (k : ℕ) (b : List ℕ) {r : Record} → readOf k b ≡ Read.Whole r → r ≡ recordOf k b
 unfolding readOf
 is-record k b e = same-record (ltb k 8 && leb (bodyLen k) (length b)) (recordOf k b) e
+
+keeps-kind : (k : ℕ) (b : List ℕ) → k < 8 → keeps (recordOf k b) ≡ ltb 2 k
+unfolding keeps
+keeps-kind zero b h = refl
+keeps-kind (suc zero) b h = refl
+keeps-kind (suc (suc zero)) b h = refl
+keeps-kind (suc (suc (suc zero))) b h = refl
+keeps-kind (suc (suc (suc (suc zero)))) b h = refl
+keeps-kind (suc (suc (suc (suc (suc zero))))) b h = refl
+keeps-kind (suc (suc (suc (suc (suc (suc zero)))))) b h = refl
+keeps-kind (suc (suc (suc (suc (suc (suc (suc zero))))))) b h = refl
+keeps-kind (suc (suc (suc (suc (suc (suc (suc (suc k)))))))) b h = absurd (omega arith)
+
+-- the kinds from 3 on leave the page as it is
+pub keeps-from : (k : ℕ) (b : List ℕ) {r : Record} → readOf k b ≡ Read.Whole r → keeps r ≡ ltb 2 k
+unfolding readOf
+keeps-from k b e =
+    let t = ltb k 8 && leb (bodyLen k) (length b) in
+    ap keeps (is-record k b e) ∙ keeps-kind k b (ltb-true k 8 (first (ltb k 8) (leb (bodyLen k) (length b)) (passed t (recordOf k b) e)))
 
 -- a line at the front: its bytes, and that they fit
 pub line-of : {l₀ l t : List ℕ} {r : ℕ} → Put l₀ 0 t l r → take r l ≡ t

@@ -2,10 +2,13 @@
 use Prim.Native.Nat.{ℕ, suc, _+_, _-_, _*_, min, _≤_, _<_}
 use mathlib.Core.Logic.{_⊎_}
 use mathlib.Core.Path.{_≡_}
-use mathlib.Core.Bool.{Bool, cond}
+use mathlib.Core.Bool.{Bool, true, false, cond}
 use mathlib.Core.List.{List, _∷_, _++_}
 use lib.ListN.{length, take, drop}
+use Rattle.float.specs.declared.FloatContext.{FloatContext}
 use Rattle.float.specs.Page.{front}
+use Rattle.tape.specs.declared.record.Record.{Record}
+use Rattle.tape.specs.declared.step.Calculator.{Calculator}
 use Rattle.tape.specs.declared.step.State.{State}
 use Rattle.tape.specs.Tape.{Told, run, linesOf}
 
@@ -18,6 +21,20 @@ pub record Put (l : List ℕ) (i : ℕ) (t m : List ℕ) (r : ℕ) : Type 0 wher
 pub record Tells {A : Type 0} (t : Told A) (a : A) (l m : List ℕ) (r : ℕ) : Type 0 where
   pub after : a ≡ t .after
   pub line : Put l 0 (t .line) m r
+
+abbrev pub stateOf : FloatContext → Calculator → State
+stateOf p c = record { page = p; calculator = c }
+
+-- the records that leave the page as it is
+unfoldable pub keeps : Record → Bool
+keeps Record.Fresh = false
+keeps (Record.Width w) = false
+keeps (Record.Place side clear w h y l r) = false
+keeps (Record.Content y l r clear after) = true
+keeps (Record.Bfc y l r ml mr d clear after) = true
+keeps (Record.Start mode w) = true
+keeps (Record.Add w side clear) = true
+keeps Record.Result = true
 
 -- the record of the kind k and the body b at the offset i was run: s is the state after it, n the next offset, and its line the first r bytes of l
 pub record Turned (s₀ : State) (k : ℕ) (b : List ℕ) (i : ℕ) (s : State) (n : ℕ) (l : List ℕ) (r : ℕ) : Type 0 where

@@ -14,14 +14,14 @@ use float::FloatContext;
 use float::FloatIntrinsicWidthCalculator;
 use float::Refusal;
 ghost use mathlib.Core.Path.{_≡_};
-ghost use mathlib.Core.Bool.{_&&_};
+ghost use mathlib.Core.Bool.{true, false, _&&_};
 ghost use mathlib.Core.List.{[], _∷_};
 ghost use Prim.Native.Nat.{_≤_};
 ghost use lib.Dec.{ltb};
 ghost use lib.ListN.{length};
 ghost use Rattle.float.specs.Numbers.{size, plusZero};
 ghost use Rattle.float.specs.Refuse.{checkOf};
-ghost use Rattle.tape.specs.Put.{Put, Tells};
+ghost use Rattle.tape.specs.Put.{Put, Tells, keeps, stateOf};
 ghost use Rattle.tape.specs.Tape.{freshState, startOf, started, notAdded, addTo, resultLine, stepOf};
 
 pub enum Calculator {
@@ -35,19 +35,20 @@ pub struct State {
     pub calculator: Calculator,
 }
 
-// The state after a record, and the length of its line.
+// The page and the calculator after a record, and the length of its line.
 pub struct Stepped {
-    pub state: State,
+    pub page: FloatContext,
+    pub calculator: Calculator,
     pub len: usize,
 }
 
-// The calculator after a record, and the length of its line.
-struct Reckoned {
-    calculator: Calculator,
-    len: usize,
+// The calculator after a record that leaves the page, and the length of its line.
+pub struct Reckoned {
+    pub calculator: Calculator,
+    pub len: usize,
 }
 
-pub fn fresh_state() -> State
+fn fresh_state() -> State
     ensures { λ r. ⌜ r ≡ freshState ⌝ }
 {
     State {
@@ -134,26 +135,72 @@ fn result_line(calculator: Calculator, line: &mut [u8]) -> usize
     }
 }
 
-pub fn step(state: State, call: Record, line: &mut [u8]) -> Stepped
-    requires { ⌜ 64 ≤ length (now line) ⌝ }
-    ensures { λ r. ⌜ Tells (stepOf state call) (r .state) (now (line .entry)) (now (line .exit)) (r .len) ⌝ }
+// A question or a call of the calculator: the page is looked at and not handed back.
+pub fn ask(page: FloatContext, calculator: Calculator, call: Record, line: &mut [u8]) -> Reckoned
+    requires { ⌜ (64 ≤ length (now line)) × (keeps call ≡ true) ⌝ }
+    ensures { λ r. ⌜ Tells (stepOf (stateOf page calculator) call) (stateOf page (r .calculator)) (now (line .entry)) (now (line .exit)) (r .len) ⌝ }
 {
     match call {
-        Record::Fresh => Stepped {
-            state: fresh_state(),
-            len: letter_line(line, b'N'),
+        Record::Content {
+            min_y,
+            left,
+            right,
+            clear,
+            after,
+        } => Reckoned {
+            calculator: calculator,
+            len: content_line(
+                line,
+                page.find_content_slot(min_y, left, right, clear, after),
+            ),
         },
+        Record::Bfc {
+            min_y,
+            left,
+            right,
+            left_margin,
+            right_margin,
+            direction,
+            clear,
+            after,
+        } => Reckoned {
+            calculator: calculator,
+            len: bfc_line(
+                line,
+                page.find_bfc_slot(
+                    min_y,
+                    left,
+                    right,
+                    left_margin,
+                    right_margin,
+                    direction,
+                    clear,
+                    after,
+                ),
+            ),
+        },
+        Record::Start { mode, number } => start(calculator, mode, number, line),
+        Record::Add { width, side, clear } => add(calculator, width, side, clear, line),
+        _ => Reckoned {
+            calculator: calculator,
+            len: result_line(calculator, line),
+        },
+    }
+}
+
+// A record that may change the page.
+pub fn step(page: FloatContext, calculator: Calculator, call: Record, line: &mut [u8]) -> Stepped
+    requires { ⌜ (64 ≤ length (now line)) × (keeps call ≡ false) ⌝ }
+    ensures { λ r. ⌜ Tells (stepOf (stateOf page calculator) call) (stateOf (r .page) (r .calculator)) (now (line .entry)) (now (line .exit)) (r .len) ⌝ }
+{
+    match call {
         Record::Width(w) => {
-            let page = state.page;
-            let calculator = state.calculator;
             let r = page.set_width(w);
             let answer = r.answer;
             let after = r.page;
             Stepped {
-                state: State {
-                    page: after,
-                    calculator: calculator,
-                },
+                page: after,
+                calculator: calculator,
                 len: done_line(line, b'W', answer),
             }
         }
@@ -166,94 +213,23 @@ pub fn step(state: State, call: Record, line: &mut [u8]) -> Stepped
             left,
             right,
         } => {
-            let page = state.page;
-            let calculator = state.calculator;
             let r = page.place_floated_box(width, height, min_y, left, right, side, clear);
             let answer = r.answer;
             let after = r.page;
             Stepped {
-                state: State {
-                    page: after,
-                    calculator: calculator,
-                },
+                page: after,
+                calculator: calculator,
                 len: place_line(line, answer),
             }
         }
-        Record::Content {
-            min_y,
-            left,
-            right,
-            clear,
-            after,
-        } => {
-            let page = state.page;
+        _ => {
+            let s = fresh_state();
+            let after = s.page;
+            let none = s.calculator;
             Stepped {
-                state: state,
-                len: content_line(
-                    line,
-                    page.find_content_slot(min_y, left, right, clear, after),
-                ),
-            }
-        }
-        Record::Bfc {
-            min_y,
-            left,
-            right,
-            left_margin,
-            right_margin,
-            direction,
-            clear,
-            after,
-        } => {
-            let page = state.page;
-            Stepped {
-                state: state,
-                len: bfc_line(
-                    line,
-                    page.find_bfc_slot(
-                        min_y,
-                        left,
-                        right,
-                        left_margin,
-                        right_margin,
-                        direction,
-                        clear,
-                        after,
-                    ),
-                ),
-            }
-        }
-        Record::Start { mode, number } => {
-            let page = state.page;
-            let calculator = state.calculator;
-            let r = start(calculator, mode, number, line);
-            let after = r.calculator;
-            Stepped {
-                state: State {
-                    page: page,
-                    calculator: after,
-                },
-                len: r.len,
-            }
-        }
-        Record::Add { width, side, clear } => {
-            let page = state.page;
-            let calculator = state.calculator;
-            let r = add(calculator, width, side, clear, line);
-            let after = r.calculator;
-            Stepped {
-                state: State {
-                    page: page,
-                    calculator: after,
-                },
-                len: r.len,
-            }
-        }
-        Record::Result => {
-            let calculator = state.calculator;
-            Stepped {
-                state: state,
-                len: result_line(calculator, line),
+                page: after,
+                calculator: none,
+                len: letter_line(line, b'N'),
             }
         }
     }

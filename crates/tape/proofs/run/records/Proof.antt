@@ -3,29 +3,82 @@ use Prim.Native.Nat.{ℕ, _+_, _-_}
 use denote.Ref.{now}
 use mathlib.Core.Path.{_≡_, subst⁻¹, _∙_}
 use native.Mathlib.Omega.{arith}
-use borrow.Author.Needs.{needs}
 use lib.ListN.{length, drop, length-take, length-drop, length-replicate}
-use Rattle.tape.specs.declared.step.State.{State}
+use Rattle.float.specs.declared.FloatContext.{FloatContext}
+use Rattle.tape.specs.declared.step.Calculator.{Calculator}
+use Rattle.tape.specs.Put.{stateOf}
+use Rattle.tape.specs.Tape.{freshState}
 use Rattle.tape.proofs.Going.{Going, going-none, going-room, going-more, going-done}
+use borrow.Author.Needs.{needs}
 use Rattle.tape.proofs.run.records.Statement.{statement}
 use Rattle.tape.proofs.run.records.Tie as tie
 
 abbrev Inv-loop : tie.InvT-loop
-Inv-loop tape answers₀ writing line₀ state₀ at₀ to₀ answers line state at to = Going tape writing answers₀ answers state at to × (length line ≡ 80)
+Inv-loop tape answers₀ writing line₀ page₀ calculator₀ at₀ to₀ answers line page calculator at to = Going tape writing answers₀ answers (stateOf page calculator) at to × (length line ≡ 80)
 
 abbrev μ-loop : tie.MeasureT-loop
-μ-loop tape answers₀ writing line₀ state₀ at₀ to₀ answers line state at to = length tape - at
+μ-loop tape answers₀ writing line₀ page₀ calculator₀ at₀ to₀ answers line page calculator at to = length tape - at
 
-fresh-state-requires : tie.Need-fresh-state-requires Inv-loop μ-loop
-fresh-state-requires c κs = search needs
+new-requires : tie.Need-new-requires Inv-loop μ-loop
+new-requires c κs = search needs
 
 loop-holds : tie.Need-loop-holds Inv-loop μ-loop
+unfolding freshState
 loop-holds c =
     let s = c .before .before .before in
-    (subst⁻¹ (λ (x : State). Going (now (s .args .tape)) (s .args .writing) (now (s .args .answers)) (now (s .args .answers)) x 0 0) (c .fresh-state .ensures) (going-none _ _ _ (s .pre .0)), length-replicate {A = ℕ} 80 0)
+    (subst⁻¹ (λ (p : FloatContext). Going (now (s .args .tape)) (s .args .writing) (now (s .args .answers)) (now (s .args .answers)) (stateOf p Calculator.None) 0 0) (c .new .ensures) (going-none _ _ _ (s .pre .0)), length-replicate {A = ℕ} 80 0)
 
-shared-slice-read-turn : tie.Need-shared-slice-read-turn Inv-loop μ-loop
-shared-slice-read-turn c = omega arith
+shared-slice-read-kind : tie.Need-shared-slice-read-kind Inv-loop μ-loop
+shared-slice-read-kind c = omega arith
+
+add-kept : tie.Need-add-kept Inv-loop μ-loop
+add-kept c = omega arith
+
+sub-kept : tie.Need-sub-kept Inv-loop μ-loop
+sub-kept c = omega arith
+
+part-kept-start : tie.Need-part-kept-start Inv-loop μ-loop
+part-kept-start c = omega arith
+
+part-kept-end : tie.Need-part-kept-end Inv-loop μ-loop
+part-kept-end c = omega arith
+
+slice-aggregate-kept : tie.Need-slice-aggregate-kept Inv-loop μ-loop
+slice-aggregate-kept c = search needs
+
+kept-requires : tie.Need-kept-requires Inv-loop μ-loop
+kept-requires c κs =
+    let s = c .before .before .before .before .before .before .before .before .before in
+    let l = c .before .before .before .before .before .loop in
+    let x = length-take (length (now (s .args .tape)) - (l .at + 1)) (drop (l .at + 1) (now (s .args .tape))) in
+    let y = length-drop (l .at + 1) (now (s .args .tape)) in
+    (l .inv .1, omega (arith, s .pre .0, c .before .before .before .before .loop-test .taken), c .before .before .if1 .taken)
+
+slice-aggregate-put-line : tie.Need-slice-aggregate-put-line Inv-loop μ-loop
+slice-aggregate-put-line c = search needs
+
+put-line-requires : tie.Need-put-line-requires Inv-loop μ-loop
+put-line-requires c κs =
+    let s = c .before .before .before .before .before .before .before .before .before .before .before .before .before in
+    let t = c .before .before .before .kept in
+    (going-room _ _ _ (c .before .before .before .before .before .before .before .before .before .loop .inv .0) (c .before .before .before .before .before .before .before .before .loop-test .taken) (t .ensures) (s .pre .1), t .ensures .fits)
+
+add-to : tie.Need-add-to Inv-loop μ-loop
+add-to c =
+    let l = c .before .before .before .before .before .before .before .before .before .before .before .before .before .loop in
+    let t = c .before .before .before .before .before .before .before .kept in
+    omega (arith, c .before .before .before .before .before .before .before .before .before .before .before .before .before .before .before .before .before .pre .0, l .inv .0 .few, l .inv .0 .inside, l .inv .1, t .ensures .fits, t .kept)
+
+loop-less : tie.Need-loop-less Inv-loop μ-loop
+loop-less c = omega (arith, c .before .before .before .before .before .before .before .before .before .before .before .before .loop-test .taken, c .before .before .before .before .before .before .before .kept .ensures .on)
+
+loop-again : tie.Need-loop-again Inv-loop μ-loop
+loop-again c =
+    let l = c .before .before .before .before .before .before .before .before .before .before .before .before .before .loop in
+    let t = c .before .before .before .before .before .before .before .kept in
+    let p = c .before .before .before .put-line in
+    let e = t .kept .1 .1 .1 .1 .1 .0 ∙ l .inv .1 in
+    (going-more _ _ _ (l .inv .0) (c .before .before .before .before .before .before .before .before .before .before .before .before .loop-test .taken) (t .ensures) (p .kept .0) (p .ensures), e)
 
 add-turn : tie.Need-add-turn Inv-loop μ-loop
 add-turn c = omega arith
@@ -44,40 +97,36 @@ slice-aggregate-turn c = search needs
 
 turn-requires : tie.Need-turn-requires Inv-loop μ-loop
 turn-requires c κs =
-    let s = c .before .before .before .before .before .before .before .before in
-    let l = c .before .before .before .before .loop in
+    let s = c .before .before .before .before .before .before .before .before .before in
+    let l = c .before .before .before .before .before .loop in
     let x = length-take (length (now (s .args .tape)) - (l .at + 1)) (drop (l .at + 1) (now (s .args .tape))) in
     let y = length-drop (l .at + 1) (now (s .args .tape)) in
-    (l .inv .1, omega (arith, s .pre .0, c .before .before .before .loop-test .taken))
+    (l .inv .1, omega (arith, s .pre .0, c .before .before .before .before .loop-test .taken), c .before .before .if1 .left)
 
-slice-aggregate-put-line : tie.Need-slice-aggregate-put-line Inv-loop μ-loop
-slice-aggregate-put-line c = search needs
+slice-aggregate-put-line-2 : tie.Need-slice-aggregate-put-line-2 Inv-loop μ-loop
+slice-aggregate-put-line-2 c = search needs
 
-put-line-requires : tie.Need-put-line-requires Inv-loop μ-loop
-put-line-requires c κs =
-    let s = c .before .before .before .before .before .before .before .before .before .before .before .before in
-    let l = c .before .before .before .before .before .before .before .before .loop in
-    (going-room _ _ _ (l .inv .0) (c .before .before .before .before .before .before .before .loop-test .taken) (c .before .before .before .turn .ensures) (s .pre .1), c .before .before .before .turn .ensures .fits)
+put-line-requires-2 : tie.Need-put-line-requires-2 Inv-loop μ-loop
+put-line-requires-2 c κs =
+    let s = c .before .before .before .before .before .before .before .before .before .before .before .before .before .before in
+    let t = c .before .before .before .before .turn in
+    (going-room _ _ _ (c .before .before .before .before .before .before .before .before .before .before .loop .inv .0) (c .before .before .before .before .before .before .before .before .before .loop-test .taken) (t .ensures) (s .pre .1), t .ensures .fits)
 
-add-to : tie.Need-add-to Inv-loop μ-loop
-add-to c =
-    let s = c .before .before .before .before .before .before .before .before .before .before .before .before .before .before .before .before .before in
-    let l = c .before .before .before .before .before .before .before .before .before .before .before .before .before .loop in
+add-to-2 : tie.Need-add-to-2 Inv-loop μ-loop
+add-to-2 c =
+    let l = c .before .before .before .before .before .before .before .before .before .before .before .before .before .before .loop in
     let t = c .before .before .before .before .before .before .before .before .turn in
-    omega (arith, s .pre .0, l .inv .0 .few, l .inv .0 .inside, l .inv .1, t .ensures .fits, t .kept)
+    omega (arith, c .before .before .before .before .before .before .before .before .before .before .before .before .before .before .before .before .before .before .pre .0, l .inv .0 .few, l .inv .0 .inside, l .inv .1, t .ensures .fits, t .kept)
 
-loop-less : tie.Need-loop-less Inv-loop μ-loop
-loop-less c =
-    let l = c .before .before .before .before .before .before .before .before .before .before .before .before .before .loop in
-    let t = c .before .before .before .before .before .before .before .before .turn in
-    omega (arith, c .before .before .before .before .before .before .before .before .before .before .before .before .loop-test .taken, t .ensures .on)
+loop-less-2 : tie.Need-loop-less-2 Inv-loop μ-loop
+loop-less-2 c = omega (arith, c .before .before .before .before .before .before .before .before .before .before .before .before .before .loop-test .taken, c .before .before .before .before .before .before .before .before .turn .ensures .on)
 
-loop-again : tie.Need-loop-again Inv-loop μ-loop
-loop-again c =
-    let l = c .before .before .before .before .before .before .before .before .before .before .before .before .before .loop in
+loop-again-2 : tie.Need-loop-again-2 Inv-loop μ-loop
+loop-again-2 c =
+    let l = c .before .before .before .before .before .before .before .before .before .before .before .before .before .before .loop in
     let t = c .before .before .before .before .before .before .before .before .turn in
-    let p = c .before .before .before .before .put-line in
-    (going-more _ _ _ (l .inv .0) (c .before .before .before .before .before .before .before .before .before .before .before .before .loop-test .taken) (t .ensures) (p .kept .0) (p .ensures), t .kept .1 .1 .1 .1 .0 ∙ l .inv .1)
+    let p = c .before .before .before .put-line2 in
+    (going-more _ _ _ (l .inv .0) (c .before .before .before .before .before .before .before .before .before .before .before .before .before .loop-test .taken) (t .ensures) (p .kept .0) (p .ensures), t .kept .1 .1 .1 .1 .1 .0 ∙ l .inv .1)
 
 same-length : tie.Need-same-length Inv-loop μ-loop
 same-length c = c .before .loop .inv .0 .long
@@ -91,19 +140,30 @@ records-spec =
     (tie.spec
     Inv-loop
     μ-loop
-    fresh-state-requires
+    new-requires
     loop-holds
-    shared-slice-read-turn
+    shared-slice-read-kind
+    add-kept
+    sub-kept
+    part-kept-start
+    part-kept-end
+    slice-aggregate-kept
+    kept-requires
+    slice-aggregate-put-line
+    put-line-requires
+    add-to
+    loop-less
+    loop-again
     add-turn
     sub-turn
     part-turn-start
     part-turn-end
     slice-aggregate-turn
     turn-requires
-    slice-aggregate-put-line
-    put-line-requires
-    add-to
-    loop-less
-    loop-again
+    slice-aggregate-put-line-2
+    put-line-requires-2
+    add-to-2
+    loop-less-2
+    loop-again-2
     same-length
     returns)

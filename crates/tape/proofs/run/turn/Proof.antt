@@ -1,7 +1,8 @@
 -- `tape::run::turn` meets its contract, by what was read.
 use mathlib.Core.Path.{sym, _∙_}
 use native.Mathlib.Omega.{arith}
-use Rattle.tape.proofs.Running.{body-fits, turned-whole, turned-broken}
+use borrow.Author.Tests.{le-ltb}
+use Rattle.tape.proofs.Running.{body-fits, keeps-from, turned-whole, turned-broken}
 use borrow.Author.Needs.{needs}
 use Rattle.tape.proofs.run.turn.Statement.{statement}
 use Rattle.tape.proofs.run.turn.Tie as tie
@@ -13,27 +14,27 @@ enum-known-read : tie.Need-enum-known-read
 enum-known-read c = search needs
 
 step-requires : tie.Need-step-requires
-step-requires c κs = search needs
+step-requires c κs = (omega (arith, c .before .before .before .before .before .before .before .pre .0), keeps-from _ _ (sym (c .before .before .before .before .read-record .ensures) ∙ c .before .before .read .given .1) ∙ le-ltb 2 _ (c .before .before .before .before .before .before .before .pre .2))
 
-add-t13 : tie.Need-add-t13
-add-t13 c = search needs
+add-t15 : tie.Need-add-t15
+add-t15 c = search needs
 
 body-len-requires : tie.Need-body-len-requires
 body-len-requires c κs = search needs
 
-add-t15 : tie.Need-add-t15
-add-t15 c =
+add-t17 : tie.Need-add-t17
+add-t17 c =
     let h = body-fits _ _ (sym (c .before .before .before .before .before .before .before .before .before .read-record .ensures) ∙ c .before .before .before .before .before .before .before .read .given .1) in
     omega (arith, c .body-len .ensures, c .before .before .before .before .before .before .before .before .before .before .before .before .pre .1)
 
 enum-told : tie.Need-enum-told
 enum-told c = search needs
 
-add-t16 : tie.Need-add-t16
-add-t16 c = search needs
-
 add-t18 : tie.Need-add-t18
 add-t18 c = search needs
+
+add-t20 : tie.Need-add-t20
+add-t20 c = search needs
 
 number-line-requires : tie.Need-number-line-requires
 number-line-requires c κs = search needs
@@ -42,7 +43,7 @@ same-length : tie.Need-same-length
 same-length c = search needs
 
 returns : tie.Need-returns
-returns c = turned-whole _ _ _ _ (c .before .before .before .before .step .kept .1 .1 .0 ∙ c .before .before .before .before .before .before .before .before .before .before .before .before .pre .0) (sym (c .before .before .before .before .before .before .before .before .before .read-record .ensures) ∙ c .before .before .before .before .before .before .before .read .given .1) (c .before .before .before .before .step .ensures) (c .body-len .ensures)
+returns c = turned-whole _ _ _ _ (c .before .before .before .before .step .kept .1 .1 .1 .0 ∙ c .before .before .before .before .before .before .before .before .before .before .before .before .pre .0) (sym (c .before .before .before .before .before .before .before .before .before .read-record .ensures) ∙ c .before .before .before .before .before .before .before .read .given .1) (c .before .before .before .before .step .ensures) (c .body-len .ensures)
 
 same-length-2 : tie.Need-same-length-2
 same-length-2 c = search needs
@@ -57,12 +58,12 @@ turn-spec =
     read-record-requires
     enum-known-read
     step-requires
-    add-t13
-    body-len-requires
     add-t15
+    body-len-requires
+    add-t17
     enum-told
-    add-t16
     add-t18
+    add-t20
     number-line-requires
     same-length
     returns
