@@ -64,10 +64,10 @@ def first_error(said):
     """The words of the first error that does not only follow from another, or of the first need that no proof was found for."""
     lines = said.splitlines()
     for at, line in enumerate(lines):
-        found = re.search(r": error: (.*)", line)
+        found = re.match(r"(?:\S+?/crates/\w+/)?(\S+): error: (.*)", line)
         if found and "was not admitted" not in line:
             rest = [more.strip() for more in itertools.takewhile(lambda more: more.startswith("  "), lines[at + 1:])]
-            return " ".join([found.group(1)] + rest)
+            return " ".join([f"{found.group(1)}:", found.group(2)] + rest)
     for line in lines:
         found = re.match(r"note: \S+/crates/\w+/(\S+: it is not proved that .*)", line)
         if found:

@@ -3,20 +3,15 @@ use Prim.Native.Nat.{ℕ, zero, suc, _+_, _<_, _≤_, zero-le, suc-le-suc, min}
 use mathlib.Core.Path.{_≡_, refl, ap, sym, _∙_}
 use mathlib.Core.Bool.{true, false}
 use mathlib.Core.List.{List, [], _∷_}
-use denote.Laws.{Is}
-use denote.Struct.Declared.{row}
-use mir.Val.{Val}
 use native.Mathlib.Decide.{decLe}
 use native.Mathlib.Nat.{le-of-suc-le-suc, not-suc-le-zero, min-eq-left, min-eq-right}
 use native.Mathlib.Numerals.{add-one}
 use native.Mathlib.Omega.{arith}
 use lib.Ieee.{Float, lt}
-use lib.ListN.{length, take, getD, length-map, length-take}
-use lib.Seq.{length-take-le, getD-take, take-all}
-use Rattle.float.specs.declared.FloatContext.{FloatContext}
+use lib.ListN.{length, take, getD, length-take}
+use lib.Seq.{length-take-le, getD-take}
 use Rattle.float.specs.declared.Segment.{Segment}
 use Rattle.float.specs.Bands.{none, firstBelow}
-use Rattle.float.proofs.FloatContext.{the-type}
 
 module _ (y : Float) where
   pub found : (l : List Segment) (i : ℕ) → i < length l → lt y (getD l i none .end) ≡ true → firstBelow l i y ≡ i

@@ -12,6 +12,7 @@ pub mod Shift
 pub mod Sides
 pub mod Slots
 pub mod Spot
+pub mod Stages
 pub mod Totals
 pub mod Turns
 pub mod Whole

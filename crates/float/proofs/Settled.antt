@@ -1,5 +1,5 @@
 -- The struct after an accepted box is the one that holds the page of rules 5 and 8: field by field, over the side.
-use Prim.Native.Nat.{ℕ, suc, _+_, _≤_, _<_, min, max}
+use Prim.Native.Nat.{ℕ, _+_, _≤_, _<_, min, max}
 use mathlib.Core.Path.{_≡_, refl, sym, ap, _∙_}
 use mathlib.Core.Bool.{Bool, true, false, cond, true≢false}
 use mathlib.Core.List.{List, [], _∷_, _++_}
@@ -23,8 +23,8 @@ use Rattle.float.specs.declared.search.Spot.{Spot}
 use Rattle.float.specs.declared.strip.Strip.{Strip}
 use Rattle.float.specs.Bands.{onSide, markAll}
 use Rattle.float.specs.Clear.{lower}
-use Rattle.float.specs.Page.{Kept, Page, pageOf, front, stored, maxBands}
-use Rattle.float.specs.Place.{Result, Made, make, keep, boxOf, xOf, recorded, counted, accept, refuse, near, flat, high, held}
+use Rattle.float.specs.Page.{Kept, pageOf, front, stored, maxBands}
+use Rattle.float.specs.Place.{Made, make, keep, boxOf, near, flat, high, held}
 use Rattle.float.specs.Settle.{bottomAfter, numberAfter, settledOf}
 use Rattle.float.specs.Strip.{fullStrip, stripFrom, stripOf}
 use Rattle.float.proofs.Front.{front-live, front-more, take-min}

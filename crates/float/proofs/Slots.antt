@@ -18,7 +18,7 @@ use Rattle.float.specs.Bands.{firstBelow}
 use Rattle.float.specs.Page.{Page, maxBands}
 use Rattle.float.specs.Clear.{raiseTo, cleared, clearedPast}
 use Rattle.float.specs.Slot.{active, from, pastOver, seek}
-use Rattle.float.proofs.Bands.{clamped}
+use Rattle.float.proofs.Bands.{clamped, past-in as below-none}
 use Rattle.float.proofs.Front.{take-min}
 
 -- ---- the first number allowed, clamped to the number of places
@@ -45,6 +45,16 @@ clamped-at l f m y h = sym (clamped l (min f m) y) ∙ ap (λ k. firstBelow l k 
 pub active-is : (bs : List Segment) (n : ℕ) (y : Float) {i : ℕ} → n ≤ length bs → i ≡ firstBelow (take n bs) 0 y → ltb i n ≡ active (take n bs) y
 unfolding active
 active-is bs n y h e = rw (length-take-le, e)
+
+pub active-some : (bs : List Segment) (n : ℕ) (y : Float) (i : ℕ) → n ≤ length bs → i < n → firstBelow (take n bs) 0 y ≡ i → true ≡ active (take n bs) y
+active-some bs n y i h k e = sym (lt-ltb i n k) ∙ active-is bs n y h (sym e)
+
+pub active-none : (bs : List Segment) (n : ℕ) (y : Float) → n ≤ length bs → firstBelow (take n bs) 0 y ≡ n → false ≡ active (take n bs) y
+active-none bs n y h e = sym (le-ltb n n (omega arith)) ∙ active-is bs n y h (sym e)
+
+-- a search that was left at i found no band
+pub past-all : (bs : List Segment) (n f : ℕ) (z : Float) → n ≤ length bs → (i : ℕ) → firstBelow (take n bs) f z ≡ firstBelow (take n bs) i z → n ≤ i → n ≤ firstBelow (take n bs) f z
+past-all bs n f z h i e k = omega (arith, e ∙ below-none bs n z h i k)
 
 -- a page whose bands are the first count of an array with 96 places
 module _ (p : Page) (bs : List Segment) (count : ℕ) {n : ℕ} (eb : p .bands ≡ take count bs) (l : length bs ≡ 96) (en : n ≡ min count 96) where

@@ -1,8 +1,8 @@
 -- A placement from its parts: the refusals in their order, then the spot, then one of the two endings.
 use Prim.Native.Nat.{ℕ, _≤_, _<_, min}
-use mathlib.Core.Path.{_≡_, refl, sym, ap, _∙_, subst}
-use mathlib.Core.Bool.{Bool, true, false, _&&_, cond}
-use mathlib.Core.List.{List, [], _∷_}
+use mathlib.Core.Path.{_≡_, refl, sym, ap, _∙_}
+use mathlib.Core.Bool.{true, false, _&&_}
+use mathlib.Core.List.{[], _∷_}
 use native.Mathlib.Omega.{arith}
 use borrow.Author.Tests.{lt-ltb, le-ltb}
 use lib.Count.{trailingZeros}
@@ -21,7 +21,7 @@ use Rattle.float.specs.declared.refuse.Check.{Check}
 use Rattle.float.specs.declared.search.Spot.{Spot}
 use Rattle.float.specs.Numbers.{size, offset, plusZero}
 use Rattle.float.specs.Bands.{firstBelow}
-use Rattle.float.specs.Page.{Page, pageOf, maxBoxes}
+use Rattle.float.specs.Page.{Page, pageOf}
 use Rattle.float.specs.Place.{Call, cleaned, inputCheck, lowest, firstAllowed, askOf, spotOf, make, flat, high, put, admitted, checked, place, held, placeOf}
 use Rattle.float.specs.Refuse.{sideOf, clearOf, checkOf}
 use Rattle.float.proofs.Bands.{below-length}

@@ -1,7 +1,7 @@
 -- The intrinsic width: new, add, result. Definitions only.
 use Prim.Native.Nat.{ℕ}
-use mathlib.Core.Bool.{Bool, true, _&&_, cond}
-use mathlib.Core.List.{List, [], _∷_}
+use mathlib.Core.Bool.{true, _&&_, cond}
+use mathlib.Core.List.{[], _∷_}
 use lib.Dec.{ltb}
 use lib.Ieee.{Float, binary32, add}
 use Rattle.f32_laws.specs.Numbers.{larger, smaller, zero+}
@@ -14,7 +14,7 @@ use Rattle.float.specs.declared.FloatDirection.{FloatDirection}
 use Rattle.float.specs.declared.FloatIntrinsicWidthCalculator.{FloatIntrinsicWidthCalculator}
 use Rattle.float.specs.declared.Refusal.{Refusal}
 use Rattle.float.specs.declared.refuse.Check.{Check}
-use Rattle.float.specs.Numbers.{Given, size, plusZero, inReach}
+use Rattle.float.specs.Numbers.{size, plusZero, inReach}
 use Rattle.float.specs.Refuse.{sideOf, clearOf, checkOf}
 use Rattle.float.specs.Bands.{onSide, sameSide}
 

@@ -1,6 +1,6 @@
 -- The page as lists, and how it lies in the struct. Definitions only.
 use Prim.Native.Nat.{ℕ}
-use mathlib.Core.List.{List, [], _∷_, _++_}
+use mathlib.Core.List.{List, [], _++_}
 use lib.Ieee.{Float}
 use lib.ListN.{length, take, drop, replicate}
 use Rattle.f32_laws.specs.Numbers.{zero+}

@@ -21,7 +21,7 @@ use Rattle.float.specs.declared.Threshold.{Threshold}
 use Rattle.float.specs.declared.YesNo.{YesNo}
 use Rattle.float.specs.declared.refuse.Check.{Check}
 use Rattle.float.specs.declared.slot.Sought.{Sought}
-use Rattle.float.specs.Numbers.{Given, size, offset, plusZero}
+use Rattle.float.specs.Numbers.{size, offset, plusZero}
 use Rattle.float.specs.Refuse.{clearOf, directionOf, checkOf}
 use Rattle.float.specs.Bands.{none, sameSide, lead, hasFloat, lastEnd, firstBelow}
 use Rattle.float.specs.Page.{Page, front, noBox, maxBoxes}

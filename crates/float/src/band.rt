@@ -1,11 +1,12 @@
 // Writing on an array of bands: a split, a mark, an added band; and what is read of its last ones.
 ghost use mathlib.Core.Path.{_≡_};
-ghost use mathlib.Core.Bool.{true};
-ghost use mathlib.Core.List.{[], _∷_, _++_};
-ghost use Prim.Native.Nat.{_<_, _≤_};
+ghost use mathlib.Core.Bool.{true, cond};
+ghost use mathlib.Core.List.{List, [], _∷_, _++_};
+ghost use Prim.Native.Nat.{_<_, _≤_, _-_};
 ghost use lib.Ieee.{inf};
-ghost use lib.ListN.{take};
-ghost use Rattle.float.specs.Bands.{marked as markedOf, splitAt, markAll, lastEnd};
+ghost use lib.ListN.{length, take, getD};
+ghost use Rattle.float.specs.declared.Segment.{Segment as SegmentOf};
+ghost use Rattle.float.specs.Bands.{none, marked as markedOf, splitAt, markAll, lastEnd};
 ghost use Rattle.float.specs.Page.{front};
 ghost use Rattle.float.specs.Place.{seed as seedOf, inside as insideOf, walked};
 use crate::FloatDirection;
@@ -68,24 +69,32 @@ pub fn inside(b: Segment, y: f32) -> bool
     b.start < y && y < b.end
 }
 
-// Rule 7: both parts keep the band's insets and marks.
-pub fn split_bands(bands: [Segment; 96], n: usize, idx: usize, y: f32) -> [Segment; 96]
-    requires { ⌜ (n < 96) × (idx < n) ⌝ }
-    ensures { λ r. ⌜ r ≡ front (splitAt (take n bands) idx y) bands ⌝ }
+// Rule 7, where the band is to be split: both parts keep its insets and marks.
+pub fn split_bands(
+    bands: [Segment; 96],
+    n: usize,
+    idx: usize,
+    y: f32,
+    splits: bool,
+) -> [Segment; 96]
+    requires { ⌜ (splits ≡ true → (n < 96) × (idx < n)) ⌝ }
+    ensures { λ r. ⌜ r ≡ front (cond splits (splitAt (take n bands) idx y) (take n bands)) bands ⌝ }
 {
-    let old = bands[idx];
     let mut q = bands;
-    let mut i = n;
-    while i > idx + 1 {
-        q[i] = q[i - 1];
-        i -= 1;
+    if splits {
+        let old = q[idx];
+        let mut i = n;
+        while i > idx + 1 {
+            q[i] = q[i - 1];
+            i -= 1;
+        }
+        let mut up = old;
+        up.end = y;
+        let mut low = old;
+        low.start = y;
+        q[idx] = up;
+        q[idx + 1] = low;
     }
-    let mut up = old;
-    up.end = y;
-    let mut low = old;
-    low.start = y;
-    q[idx] = up;
-    q[idx + 1] = low;
     q
 }
 
@@ -111,25 +120,26 @@ pub fn mark_bands(
     q
 }
 
-// Rules 6 and 7: a band below the last.
-pub fn add_band(bands: [Segment; 96], n: usize, b: Segment) -> [Segment; 96]
-    requires { ⌜ n < 96 ⌝ }
-    ensures { λ r. ⌜ r ≡ front (take n bands ++ b ∷ []) bands ⌝ }
+// Rules 6 and 7: a band below the last, where one is to be added.
+pub fn add_band(bands: [Segment; 96], n: usize, b: Segment, adds: bool) -> [Segment; 96]
+    requires { ⌜ (adds ≡ true → n < 96) ⌝ }
+    ensures { λ r. ⌜ r ≡ front (cond adds (take n bands ++ b ∷ []) (take n bands)) bands ⌝ }
 {
     let mut q = bands;
-    q[n] = b;
+    if adds {
+        q[n] = b;
+    }
     q
 }
 
-// Rule 6: the end of no band counts as minus infinity.
-pub fn last_end(bands: [Segment; 96], n: usize) -> f32
-    requires { ⌜ n ≤ 96 ⌝ }
-    ensures { λ r. ⌜ r ≡ lastEnd (inf true) (take n bands) ⌝ }
+// Rule 6: the end of the last of n bands, b; that of no band counts as minus infinity.
+pub fn last_end(n: usize, b: Segment) -> f32
+    ensures { λ r. ⌜ ((l : List SegmentOf) → n ≤ length l → b ≡ getD l (n - 1) none → r ≡ lastEnd (inf true) (take n l)) ⌝ }
 {
     if n == 0 {
         return -1.0 / 0.0;
     }
-    bands[n - 1].end
+    b.end
 }
 
 // Rule 7: the end goes back over bands that the box does not reach, as far as the start.

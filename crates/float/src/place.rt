@@ -17,6 +17,7 @@ use crate::PlacedFloatedBox;
 use crate::Refusal;
 use crate::Segment;
 use crate::Widened;
+use crate::band;
 use crate::clearing;
 use crate::fit::Ask;
 use crate::number;
@@ -189,15 +190,17 @@ fn high(p: FloatContext, n: usize, a: Ask, spot: Spot) -> Placed
     requires { ⌜ (n ≡ min (p .count) 96) × (p .«box_count» < 64) × (spot .start ≤ spot .end) × (spot .end ≤ n) ⌝ }
     ensures { λ r. ⌜ r ≡ held p (highOf (pageOf p) a spot (make a (pageOf p .bands) spot)) ⌝ }
 {
-    let bands = p.bands;
-    let y = strip::made_y(bands, n, spot);
+    let last = p.bands[n - number::smaller_n(n, 1)];
+    let z = band::last_end(n, last);
+    let y = strip::made_y(z, n, spot);
     if !near(a, spot.inset, y) {
         return Placed {
             answer: PlaceAnswer::Refused(Refusal::TooFar),
             page: p,
         };
     }
-    let s = strip::record(bands, n, a, spot);
+    let bands = p.bands;
+    let s = strip::record(bands, n, z, a, spot);
     if s.full {
         return Placed {
             answer: PlaceAnswer::Refused(Refusal::BandsFull),

@@ -118,12 +118,19 @@ pub fn first_below(bands: [Segment; 96], n: usize, f: usize, y: f32) -> usize
     n
 }
 
-// Rule 4. A start that is given up leaves the end where it was.
-fn search(bands: [Segment; 96], n: usize, first: usize, min_y: f32, ask: Ask) -> Spot
-    requires { ⌜ (n ≤ 96) × (first ≤ n) ⌝ }
-    ensures { λ r. ⌜ r ≡ searchFrom (take n bands) ask first «min_y» ⌝ }
+// Rules 3 and 4 for the bands from f on, in one function so that the bands are handed over once. A start that is given up leaves the end where it was.
+pub fn look(bands: [Segment; 96], n: usize, f: usize, min_y: f32, ask: Ask) -> Spot
+    requires { ⌜ n ≤ 96 ⌝ }
+    ensures { λ r. ⌜ r ≡ searchFrom (take n bands) ask (firstBelow (take n bands) f «min_y») «min_y» ⌝ }
 {
     let side = ask.side;
+    let mut first = number::smaller_n(f, n);
+    while first < n {
+        if bands[first].end > min_y {
+            break;
+        }
+        first += 1;
+    }
     let mut start = first;
     let mut end = first;
     let mut y = min_y;
@@ -183,12 +190,4 @@ fn search(bands: [Segment; 96], n: usize, first: usize, min_y: f32, ask: Ask) ->
         }
     };
     spot
-}
-
-// Rules 3 and 4 for the bands from f on.
-pub fn look(bands: [Segment; 96], n: usize, f: usize, y: f32, ask: Ask) -> Spot
-    requires { ⌜ n ≤ 96 ⌝ }
-    ensures { λ r. ⌜ r ≡ searchFrom (take n bands) ask (firstBelow (take n bands) f y) y ⌝ }
-{
-    search(bands, n, first_below(bands, n, f, y), y, ask)
 }

@@ -64,7 +64,7 @@ fn first_allowed(after: BandNumber, past: usize) -> usize
     }
 }
 
-// One search for both questions. It is given what it reads of a page.
+// One search for both questions. It is given what it reads of a page, and goes over the bands itself, so that they are handed over once.
 pub fn seek(
     bands: [Segment; 96],
     count: usize,
@@ -82,15 +82,21 @@ pub fn seek(
     let raised = clearing::raise_to(y, clearing::cleared(left, right, clear));
     let first = first_allowed(after, clearing::cleared_past(left_past, right_past, clear));
     // With no band below min_y clear isn't looked at.
-    if !active(bands, n, y) {
-        return Sought::Quiet(y);
+    let mut k: usize = 0;
+    while k < n {
+        if bands[k].end > y {
+            let mut i = first;
+            while i < n {
+                if bands[i].end > raised {
+                    return Sought::At(i, raised);
+                }
+                i += 1;
+            }
+            return Sought::Past(raised);
+        }
+        k += 1;
     }
-    let i = search::first_below(bands, n, first, raised);
-    if i < n {
-        Sought::At(i, raised)
-    } else {
-        Sought::Past(raised)
-    }
+    Sought::Quiet(y)
 }
 
 pub fn content_at(width: f32, band: BandNumber, y: f32, left: f32, right: f32) -> ContentSlot

@@ -1,11 +1,11 @@
 -- Document 01's twelve marked examples and its tape as one table, and the theorem that the definitions give every figure in it.
-use Prim.Native.Nat.{ℕ, suc}
+use Prim.Native.Nat.{ℕ}
 use mathlib.Core.Path.{_≡_, refl}
 use mathlib.Core.Bool.{Bool, true, false, _&&_}
-use mathlib.Core.List.{List, [], _∷_, _++_}
+use mathlib.Core.List.{List, [], _∷_}
 use lib.IntN.{pos}
 use lib.Count.{trailingZeros}
-use lib.Dec.{leb, eqb}
+use lib.Dec.{eqb}
 use lib.Ieee.{Float, binary32, nan, add, sub, lt, le, eq, ofBits, ofFields, ofInt, neg, toBits, sum, round, units, odd, size, span, climb}
 use Rattle.f32_laws.specs.Numbers.{larger, smaller, zero+, tol}
 use Rattle.float.specs.declared.BandNumber.{BandNumber}

@@ -3,7 +3,6 @@ use borrow.Author.Needs.{needs}
 use Prim.Native.Nat.{_<_}
 use mathlib.Core.Path.{refl}
 use native.Mathlib.Omega.{arith}
-use lib.ListN.{length}
 use Rattle.float.specs.Page.{pageOf}
 use Rattle.float.proofs.Answers.{bfc-passed, bfc-refused, bfc-quiet, bfc-past, bfc-at, in-array, some-band}
 use Rattle.float.proofs.Front.{bands-96}

@@ -1,6 +1,6 @@
 -- `float::FloatContext::has_active_floats` meets its contract: the check decides.
 use borrow.Author.Needs.{needs}
-use mathlib.Core.Path.{_≡_, refl, sym, ap, _∙_}
+use mathlib.Core.Path.{refl, sym, ap, _∙_}
 use mathlib.Core.List.{List}
 use Rattle.float.specs.declared.Segment.{Segment}
 use Rattle.float.specs.Page.{pageOf}

@@ -1,7 +1,5 @@
 -- `float::FloatContext::has_floats` meets its contract: a count above 0 takes at least one box of the array.
-use Prim.Native.Nat.{ℕ, _<_, min}
-use mathlib.Core.Path.{_≡_, sym, ap, _∙_}
-use mathlib.Core.Bool.{Bool}
+use mathlib.Core.Path.{_≡_}
 use native.Mathlib.Omega.{arith}
 use lib.Dec.{ltb}
 use lib.ListN.{length, take, length-take}

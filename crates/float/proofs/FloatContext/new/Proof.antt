@@ -1,5 +1,4 @@
 -- `float::FloatContext::new` meets its contract: both arrays are their filler, repeated.
-use mathlib.Core.Path.{_≡_, refl, ap, _∙_}
 use lib.Count.{trailingZeros}
 use lib.Ieee.{ofBits, ofFields}
 use borrow.Author.Needs.{needs}

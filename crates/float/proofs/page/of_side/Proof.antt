@@ -1,11 +1,11 @@
 -- `float::page::of_side` meets its contract. The loop's invariant: of the boxes passed, those of the side stand at the front.
 use borrow.Author.Needs.{needs}
 use Prim.Native.Nat.{_≤_, _-_}
-use mathlib.Core.Path.{_≡_, refl}
+use mathlib.Core.Path.{_≡_}
 use mathlib.Core.Logic.{⊎-elim}
 use native.Mathlib.Omega.{arith}
 use lib.ListN.{length}
-use Rattle.float.proofs.Sides.{Picked, picked-none, picked-more, picked-same, picked-all, took, left}
+use Rattle.float.proofs.Sides.{Picked, picked-none, picked-all, took, left}
 use Rattle.float.proofs.page.of_side.Statement.{statement}
 use Rattle.float.proofs.page.of_side.Tie as tie
 use Rattle.float.proofs.page.of_side.Reads as reads

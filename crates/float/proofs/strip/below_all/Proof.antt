@@ -58,9 +58,6 @@ module _ (bs : List Segment) (n : ℕ) (a : Ask) (i : Float) (y : Float) (long :
         ∙ ap (λ (b : Segment). stripFrom bs a i (gap ++ b ∷ []) (n + 1) (n + 1)) seeded
         ∙ ap (λ (k : ℕ). stripFrom bs a i (gap ++ seed a (larger z y) (add binary32 (larger z y) (a .height)) ∷ []) k k) (sym gap-len))
 
-last-end-requires : tie.Need-last-end-requires
-last-end-requires c κs = search needs
-
 larger-requires : tie.Need-larger-requires
 larger-requires c κs = search needs
 
@@ -73,8 +70,8 @@ grown-requires c κs = search needs
 returns : tie.Need-returns
 returns c =
     let k = c .before .before .before in
-    let s = k .before .before .before .before in
-    no-gap (s .args .bands) (s .args .n) (s .args .ask) (s .args .spot .inset) (s .args .spot .y) (s .good .0 .1 .0 .1) (omega arith) _ _ _ _ (k .before .before .before .last-end .ensures) (k .before .before .larger .ensures) (k .seed .ensures) (not-true _ (c .before .if1 .taken)) (c .grown .ensures)
+    let s = k .before .before .before in
+    no-gap (s .args .bands) (s .args .n) (s .args .ask) (s .args .spot .inset) (s .args .spot .y) (s .good .0 .1 .0 .1) (omega arith) _ _ _ _ (s .pre .1) (k .before .before .larger .ensures) (k .seed .ensures) (not-true _ (c .before .if1 .taken)) (c .grown .ensures)
 
 full-requires : tie.Need-full-requires
 full-requires c κs = search needs
@@ -82,11 +79,11 @@ full-requires c κs = search needs
 returns-2 : tie.Need-returns-2
 returns-2 c =
     let k = c .before .before .before .before in
-    let s = k .before .before .before .before in
-    gap-full (s .args .bands) (s .args .n) (s .args .ask) (s .args .spot .inset) (s .args .spot .y) (s .good .0 .1 .0 .1) (omega arith) _ _ _ _ (k .before .before .before .last-end .ensures) (k .before .before .larger .ensures) (k .seed .ensures) (not-false _ (c .before .before .if1 .left)) (c .before .if2 .taken) (c .full .ensures)
+    let s = k .before .before .before in
+    gap-full (s .args .bands) (s .args .n) (s .args .ask) (s .args .spot .inset) (s .args .spot .y) (s .good .0 .1 .0 .1) (omega arith) _ _ _ _ (s .pre .1) (k .before .before .larger .ensures) (k .seed .ensures) (not-false _ (c .before .before .if1 .left)) (c .before .if2 .taken) (c .full .ensures)
 
 add-band-requires : tie.Need-add-band-requires
-add-band-requires c κs = search needs
+add-band-requires c κs = λ _. omega arith
 
 add-grown : tie.Need-add-grown
 add-grown c = search needs
@@ -101,8 +98,8 @@ returns-3 : tie.Need-returns-3
 unfolding zero+ ofBits
 returns-3 c =
     let k = c .before .before .before .before .before in
-    let s = k .before .before .before .before in
-    gap-added (s .args .bands) (s .args .n) (s .args .ask) (s .args .spot .inset) (s .args .spot .y) (s .good .0 .1 .0 .1) (omega arith) _ _ _ _ (k .before .before .before .last-end .ensures) (k .before .before .larger .ensures) (k .seed .ensures) _ (not-false _ (c .before .before .before .if1 .left)) (c .before .add-band .ensures) (c .grown2 .ensures)
+    let s = k .before .before .before in
+    gap-added (s .args .bands) (s .args .n) (s .args .ask) (s .args .spot .inset) (s .args .spot .y) (s .good .0 .1 .0 .1) (omega arith) _ _ _ _ (s .pre .1) (k .before .before .larger .ensures) (k .seed .ensures) _ (not-false _ (c .before .before .before .if1 .left)) (c .before .add-band .ensures) (c .grown2 .ensures)
 
 pub below-all-spec : {M : Type 1} → statement M
-below-all-spec = tie.close (tie.spec last-end-requires larger-requires seed-requires grown-requires returns full-requires returns-2 add-band-requires add-grown add-grown-2 grown-requires-2 returns-3)
+below-all-spec = tie.close (tie.spec larger-requires seed-requires grown-requires returns full-requires returns-2 add-band-requires add-grown add-grown-2 grown-requires-2 returns-3)

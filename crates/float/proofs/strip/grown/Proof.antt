@@ -25,7 +25,7 @@ returns c =
     c .full .ensures ∙ strip-full (s .args .bands) _ _ (take (s .args .n) (s .args .bands) ++ s .args .b ∷ []) _ _ (omega arith)
 
 add-band-requires : tie.Need-add-band-requires
-add-band-requires c κs = search needs
+add-band-requires c κs = λ _. omega arith
 
 add-closed : tie.Need-add-closed
 add-closed c = search needs

@@ -1,117 +1,137 @@
--- `float::strip::started` meets its contract: the end says whether the box runs past the last band, and the bottom whether its last band is split.
+-- `float::strip::started` meets its contract: each stage hands on the list that stands at the front of its array, and the two tests for room come before the writes.
 use borrow.Author.Needs.{needs}
-use borrow.Author.Tests.{not-true, not-false, lt-ltb, le-ltb}
-use Prim.Native.Nat.{ℕ, _+_, _≤_, _<_}
-use mathlib.Core.Path.{_≡_, _∙_, ap, sym}
-use mathlib.Core.Bool.{Bool, true, false}
-use mathlib.Core.List.{List}
-use native.Mathlib.Nat.{le-refl}
+use Prim.Native.Nat.{_<_}
+use mathlib.Core.Path.{_≡_, refl}
 use native.Mathlib.Omega.{arith}
-use lib.Ieee.{Float, binary32, add}
-use lib.ListN.{length, take, getD}
-use lib.Seq.{length-take-le, getD-take}
-use Rattle.float.specs.declared.Segment.{Segment}
-use Rattle.float.specs.declared.fit.Ask.{Ask}
-use Rattle.float.specs.declared.strip.Strip.{Strip}
-use Rattle.float.specs.Bands.{none, splitAt}
-use Rattle.float.specs.Page.{front}
-use Rattle.float.specs.Place.{walked, inside, pastLast, startedAt}
-use Rattle.float.specs.Strip.{fullStrip, stripFrom, stripMade}
-use Rattle.float.proofs.Shift.{length-split}
-use Rattle.float.proofs.Make.{walk-between}
-use Rattle.float.proofs.Room.{strip-full, strip-next, strip-taken, strip-left}
+use lib.ListN.{length, take}
+use Rattle.float.proofs.Stages.{moved-le, moved-lt, moved-up, room-for, first-full, length-stands, last-stands, tail-full, tail-done}
 use Rattle.float.proofs.strip.started.Statement.{statement}
 use Rattle.float.proofs.strip.started.Tie as tie
 
-module _ (bs : List Segment) (n : ℕ) (a : Ask) (i : Float) (s e : ℕ) (y : Float) (long : length bs ≡ 96) (room : n ≤ 96) (r : Strip) where
-  len : length (take n bs) ≡ n
-  len = length-take-le n bs (omega arith)
-
-  -- what is to be shown
-  abbrev Goal : Type 0
-  Goal = r ≡ stripMade bs a i (startedAt a (take n bs) s e y)
-
-  past : n ≤ e → r ≡ stripMade bs a i (pastLast a (take n bs) s y (add binary32 y (a .height))) → Goal
-  past h q = strip-left bs a i _ _ _ r (le-ltb e (length (take n bs)) (omega (arith, len))) q
-
-  -- the end is walked back to k, and t says whether the bottom is inside the band there
-  module _ (k : ℕ) (t : Bool) (low : e < n) (back : k ≡ walked (take n bs) s (add binary32 y (a .height)) e) (reached : k < n) (test : t ≡ inside (getD bs k none) (add binary32 y (a .height))) where
-    within : inside (getD (take n bs) k none) (add binary32 y (a .height)) ≡ t
-    within = ap (λ (b : Segment). inside b (add binary32 y (a .height))) (getD-take n bs k none reached) ∙ sym test
-
-    kept : t ≡ false → r ≡ stripFrom bs a i (take n bs) s k → Goal
-    kept f q = strip-taken bs a i _ _ _ r (lt-ltb e (length (take n bs)) (omega (arith, len))) (rw (← back) (strip-left bs a i _ _ _ r (within ∙ f) q))
-
-    cut : t ≡ true → r ≡ stripFrom bs a i (splitAt (take n bs) k (add binary32 y (a .height))) s k → Goal
-    cut f q = strip-taken bs a i _ _ _ r (lt-ltb e (length (take n bs)) (omega (arith, len))) (rw (← back) (strip-taken bs a i _ _ _ r (within ∙ f) q))
-
-    cut-len : length (splitAt (take n bs) k (add binary32 y (a .height))) ≡ n + 1
-    cut-len = length-split (take n bs) k (add binary32 y (a .height)) (omega (arith, len)) ∙ omega (arith, len)
-
-    cut-full : t ≡ true → 96 ≤ n → r ≡ fullStrip → Goal
-    cut-full f h q = cut f (q ∙ strip-full bs a i (splitAt (take n bs) k (add binary32 y (a .height))) s k (omega (arith, cut-len)))
-
-    cut-made : t ≡ true → (q : List Segment) → q ≡ front (splitAt (take n bs) k (add binary32 y (a .height))) bs → r ≡ stripFrom q a i (take (n + 1) q) s k → Goal
-    cut-made f q w p = cut f (strip-next bs a i (λ m. record { bands = m; start = s; end = k; y = y }) (splitAt (take n bs) k (add binary32 y (a .height))) q (n + 1) r w cut-len (le-refl _) p)
-
-past-last-requires : tie.Need-past-last-requires
-past-last-requires c κs = search needs
-
-returns : tie.Need-returns
-returns c = let s = c .before .before .before in past (s .args .t1) (s .args .n) (s .args .ask) (s .args .spot .inset) (s .args .spot .start) (s .args .spot .end) (s .args .spot .y) (s .good .0 .1 .0 .1) (omega arith) _ (c .before .if1 .taken) (c .past-last .ensures)
-
-walk-back-requires : tie.Need-walk-back-requires
-walk-back-requires c κs = search needs
-
--- the end after the walk
-stands : (c : tie.After-walk-back) → let s = c .before .before .before .before .before in (s .args .spot .start ≤ c .walk-back .result) × (c .walk-back .result < s .args .n)
-stands c =
+-- the array with the start band split holds as many bands as are counted
+standing : (c : tie.After-split-bands) → length (take (c .before .before .moved .result) (c .split-bands .result)) ≡ c .before .before .moved .result
+standing c =
     let s = c .before .before .before .before .before in
-    let b = walk-between (take (s .args .n) (s .args .t1)) (s .args .spot .start) (add binary32 (s .args .spot .y) (s .args .ask .height)) (s .args .spot .end) (omega arith) in
-    let e = c .walk-back .ensures in
-    (omega arith, omega arith)
+    length-stands (s .args .t1) (s .args .n) (s .args .ask) (s .args .spot) (s .good .0 .1 .0 .1) (s .pre .0) (s .pre .3) _ (c .before .before .before .starts-inside .ensures) _ _ (c .split-bands .ensures) (c .before .before .moved .ensures)
 
-mul-b : tie.Need-mul-b
-mul-b c = omega (arith, stands c)
+-- the end is one of them
+sits : (c : tie.After-tail-of) → c .tail-of .result .end < c .before .before .before .before .before .before .before .moved .result
+sits c = omega (arith, c .tail-of .ensures .there, standing (c .before .before .before .before .before))
 
-array-copy-out-b : tie.Need-array-copy-out-b
-array-copy-out-b c = omega (arith, stands c)
+mul-first : tie.Need-mul-first
+mul-first c = search needs
 
-inside-requires : tie.Need-inside-requires
-inside-requires c κs = search needs
+array-copy-out-first : tie.Need-array-copy-out-first
+array-copy-out-first c = search needs
 
-closed-requires : tie.Need-closed-requires
-closed-requires c κs = let w = stands (c .before .before .before) in (omega arith, omega arith, omega arith)
+starts-inside-requires : tie.Need-starts-inside-requires
+starts-inside-requires c κs = search needs
 
-returns-2 : tie.Need-returns-2
-returns-2 c =
-    let w = c .before .before .before .before in
-    let s = w .before .before .before .before .before in
-    kept (s .args .t1) (s .args .n) (s .args .ask) (s .args .spot .inset) (s .args .spot .start) (s .args .spot .end) (s .args .spot .y) (s .good .0 .1 .0 .1) (omega arith) _ _ _ (omega arith) (w .walk-back .ensures) (stands w .1) (c .before .before .inside .ensures) (not-true _ (c .before .if2 .taken)) (c .closed .ensures)
+moved-requires : tie.Need-moved-requires
+moved-requires c κs = search needs
 
 full-requires : tie.Need-full-requires
 full-requires c κs = search needs
 
-returns-3 : tie.Need-returns-3
-returns-3 c =
-    let w = c .before .before .before .before .before in
-    let s = w .before .before .before .before .before in
-    cut-full (s .args .t1) (s .args .n) (s .args .ask) (s .args .spot .inset) (s .args .spot .start) (s .args .spot .end) (s .args .spot .y) (s .good .0 .1 .0 .1) (omega arith) _ _ _ (omega arith) (w .walk-back .ensures) (stands w .1) (c .before .before .before .inside .ensures) (not-false _ (c .before .before .if2 .left)) (c .before .if3 .taken) (c .full .ensures)
+returns : tie.Need-returns
+returns c =
+    let m = c .before .before in
+    let s = m .before .before .before in
+    first-full (s .args .t1) (s .args .n) (s .args .ask) (s .args .spot) (s .good .0 .1 .0 .1) (s .pre .0) (s .pre .3) _ (m .before .starts-inside .ensures) (omega (arith, m .moved .ensures, c .before .if1 .taken)) _ (c .full .ensures)
 
 split-bands-requires : tie.Need-split-bands-requires
-split-bands-requires c κs = let w = stands (c .before .before .before .before) in (omega arith, omega arith)
+split-bands-requires c κs = λ e. (room-for _ _ _ (c .before .moved .ensures) (c .if1 .left) e, c .before .before .before .before .pre .3)
 
-add-closed : tie.Need-add-closed
-add-closed c = search needs
+moved-requires-2 : tie.Need-moved-requires-2
+moved-requires-2 c κs = search needs
 
-closed-requires-2 : tie.Need-closed-requires-2
-closed-requires-2 c κs = let w = stands (c .before .before .before .before .before) in (omega arith, omega arith, omega arith)
+moved-requires-3 : tie.Need-moved-requires-3
+moved-requires-3 c κs = search needs
 
-returns-4 : tie.Need-returns-4
-returns-4 c =
-    let w = c .before .before .before .before .before .before in
-    let s = w .before .before .before .before .before in
-    cut-made (s .args .t1) (s .args .n) (s .args .ask) (s .args .spot .inset) (s .args .spot .start) (s .args .spot .end) (s .args .spot .y) (s .good .0 .1 .0 .1) (omega arith) _ _ _ (omega arith) (w .walk-back .ensures) (stands w .1) (c .before .before .before .before .inside .ensures) (not-false _ (c .before .before .before .if2 .left)) _ (c .before .split-bands .ensures) (c .closed2 .ensures)
+tail-of-requires : tie.Need-tail-of-requires
+tail-of-requires c κs =
+    let w = c .before .before .before in
+    let q = w .before in
+    let m = q .before .before in
+    let s = m .before .before .before in (
+      q .before .if1 .left,
+      omega (arith, w .moved2 .ensures, c .moved3 .ensures, moved-le (m .before .starts-inside .result) (s .pre .1)),
+      omega (arith, w .moved2 .ensures, m .moved .ensures, moved-lt (m .before .starts-inside .result) (s .pre .3)),
+      last-stands (s .args .t1) (s .args .n) (s .args .ask) (s .args .spot) (s .good .0 .1 .0 .1) (s .pre .0) (s .pre .3) _ (m .before .starts-inside .ensures) _ _ (q .split-bands .ensures) (m .moved .ensures) (s .args .z) (s .pre .4),
+    )
+
+moved-requires-4 : tie.Need-moved-requires-4
+moved-requires-4 c κs = search needs
+
+moved-requires-5 : tie.Need-moved-requires-5
+moved-requires-5 c κs = omega (arith, c .moved4 .ensures, moved-up (c .before .tail-of .result .splits) (c .before .before .before .before .before .before .before .before .moved .result), c .before .before .before .before .before .before .before .if1 .left)
+
+full-requires-2 : tie.Need-full-requires-2
+full-requires-2 c κs = search needs
+
+returns-2 : tie.Need-returns-2
+returns-2 c =
+    let d = c .before .before .before .before in
+    let q = d .before .before .before .before .before in
+    let m = q .before .before in
+    let s = m .before .before .before in
+    tail-full (s .args .t1) (s .args .n) (s .args .ask) (s .args .spot) (s .good .0 .1 .0 .1) (s .pre .0) (s .pre .3) _ (m .before .starts-inside .ensures) _ _ (q .split-bands .ensures) (m .moved .ensures) _ _ _ (s .args .z) _ (d .before .before .before .before .moved2 .ensures) (d .before .moved3 .ensures) (s .pre .4) refl (d .tail-of .ensures) _ _ (c .before .before .before .moved4 .ensures) (c .before .before .moved5 .ensures) (c .before .if2 .taken) _ (c .full2 .ensures)
+
+split-bands-requires-2 : tie.Need-split-bands-requires-2
+split-bands-requires-2 c κs =
+    let d = c .before .before .before in
+    λ e. (room-for _ _ _ (c .before .before .moved4 .ensures) (omega (arith, c .if2 .left, c .before .moved5 .ensures, moved-up (d .tail-of .result .adds) (c .before .before .moved4 .result))) e, sits d)
+
+seed-requires : tie.Need-seed-requires
+seed-requires c κs = search needs
+
+add-band-requires : tie.Need-add-band-requires
+add-band-requires c κs = λ e. room-for _ _ _ (c .before .before .before .moved5 .ensures) (c .before .before .if2 .left) e
+
+moved-requires-6 : tie.Need-moved-requires-6
+moved-requires-6 c κs = let d = c .before .before .before .before .before .before in omega (arith, sits d, d .before .before .before .before .before .before .if1 .left)
+
+closed-requires : tie.Need-closed-requires
+closed-requires c κs =
+    let n = c .before .before .before .before .before in
+    let k = n .before in
+    let d = k .before in
+    let t = d .tail-of .result in
+    let low : t .end < k .moved4 .result = omega (arith, sits d, k .moved4 .ensures, moved-up (t .splits) (d .before .before .before .before .before .before .before .moved .result)) in (
+      c .before .before .before .before .if2 .left,
+      omega (arith, c .moved6 .ensures, n .moved5 .ensures, moved-lt (t .adds) low),
+      omega (arith, c .moved6 .ensures, d .tail-of .ensures .order, moved-up (t .adds) (t .end)),
+    )
+
+returns-3 : tie.Need-returns-3
+returns-3 c =
+    let d = c .before .before .before .before .before .before .before .before in
+    let q = d .before .before .before .before .before in
+    let m = q .before .before in
+    let s = m .before .before .before in
+    tail-done (s .args .t1) (s .args .n) (s .args .ask) (s .args .spot) (s .good .0 .1 .0 .1) (s .pre .0) (s .pre .3) _ (m .before .starts-inside .ensures) _ _ (q .split-bands .ensures) (m .moved .ensures) _ _ _ (s .args .z) _ (d .before .before .before .before .moved2 .ensures) (d .before .moved3 .ensures) (s .pre .4) refl (d .tail-of .ensures) _ _ (c .before .before .before .before .before .before .before .moved4 .ensures) (c .before .before .before .before .before .before .moved5 .ensures) _ _ _ _ _ (c .before .before .before .seed .ensures) (c .before .moved6 .ensures) (c .before .before .before .before .split-bands2 .ensures) (c .before .before .add-band .ensures) (c .closed .ensures)
 
 pub started-spec : {M : Type 1} → statement M
-started-spec = tie.close (tie.spec past-last-requires returns walk-back-requires mul-b array-copy-out-b inside-requires closed-requires returns-2 full-requires returns-3 split-bands-requires add-closed closed-requires-2 returns-4)
+started-spec =
+    tie.close
+    (tie.spec
+    mul-first
+    array-copy-out-first
+    starts-inside-requires
+    moved-requires
+    full-requires
+    returns
+    split-bands-requires
+    moved-requires-2
+    moved-requires-3
+    tail-of-requires
+    moved-requires-4
+    moved-requires-5
+    full-requires-2
+    returns-2
+    split-bands-requires-2
+    seed-requires
+    add-band-requires
+    moved-requires-6
+    closed-requires
+    returns-3)
