@@ -41,8 +41,11 @@ def read_edit(path):
 
 
 def copy_crates(where):
-    """The repository's crates in a folder of their own; what was proved there before stays."""
+    """The repository's crates in a folder of their own; what was proved, there or here, need not be proved again."""
     where.mkdir(parents=True, exist_ok=True)
+    for part in ("rlib", "stamp"):
+        if (ROOT / "target" / part).is_dir():
+            shutil.copytree(ROOT / "target" / part, where / "target" / part, dirs_exist_ok=True)
     shutil.rmtree(where / "crates", ignore_errors=True)
     shutil.copytree(ROOT / "crates", where / "crates", ignore=shutil.ignore_patterns("edits"))
     shutil.copy(ROOT / "crates.txt", where / "crates.txt")

@@ -8,7 +8,7 @@ use native.Mathlib.Nat.{le-of-suc-le-suc, not-suc-le-zero, min-eq-left, min-eq-r
 use native.Mathlib.Numerals.{add-one}
 use native.Mathlib.Omega.{arith}
 use lib.Ieee.{Float, lt}
-use lib.ListN.{length, take, getD, length-take}
+use lib.ListN.{length, take, getD}
 use lib.Seq.{length-take-le, getD-take}
 use Rattle.float.specs.declared.Segment.{Segment}
 use Rattle.float.specs.Bands.{none, firstBelow}
@@ -38,9 +38,6 @@ module _ (y : Float) where
   below-length [] i = zero-le
   below-length (b ∷ bs) zero = elim (lt y (b .end)) as (λ t. (elim t [ true ↦ 0 | false ↦ suc (firstBelow bs zero y) ]) ≤ suc (length bs)) [ true ↦ zero-le | false ↦ suc-le-suc (below-length bs zero) ]
   below-length (b ∷ bs) (suc i) = suc-le-suc (below-length bs i)
-
-pub below-count : (bs : List Segment) (n f : ℕ) (y : Float) → firstBelow (take n bs) f y ≤ n
-below-count bs n f y = let h = below-length y (take n bs) f in let e = length-take n bs in omega arith
 
 -- of two numbers the smaller is one of them
 min-cases : (P : ℕ → Type 0) (c m : ℕ) → (c ≤ m → P c) → (m ≤ c → P m) → P (min c m)

@@ -3,7 +3,7 @@ use Prim.Native.Nat.{ℕ, zero, suc, suc-le-suc, _+_, _-_, _<_, _≤_}
 use mathlib.Core.Path.{_≡_, refl, ap, sym, _∙_}
 use mathlib.Core.Bool.{Bool, true, false, _&&_, cond}
 use mathlib.Core.List.{List, [], _∷_, _++_}
-use native.Mathlib.Nat.{le-of-suc-le-suc, not-suc-le-zero, le-refl, le-trans}
+use native.Mathlib.Nat.{le-of-suc-le-suc, not-suc-le-zero, le-refl}
 use native.Mathlib.Numerals.{add-one}
 use native.Mathlib.Omega.{arith}
 use borrow.Author.Tests.{lt-ltb, le-ltb, ltb-true}
@@ -139,18 +139,6 @@ module _ (a : Ask) where
       by-cond (Grown l) (ltb e (length l))
       (λ _. by-cond (Grown l) (inside (getD l (walked l s bottom e) none) bottom) (λ _. split-grows l (walked l s bottom e) bottom) (λ _. le-refl (length l)))
       (λ _. by-cond (Grown l) (lt (endOf l) bottom) (λ _. snoc-grows l l (seed a (endOf l) bottom) (le-refl (length l))) (λ _. le-refl (length l)))
-
-  gap-grows : (l : List Segment) (z y : Float) → length l ≤ length (gapped l z y)
-  gap-grows l z y = by-cond (λ (m : List Segment). length l ≤ length m) (lt z y) (λ _. snoc-grows l l (bare z y zero+ zero+) (le-refl (length l))) (λ _. le-refl (length l))
-
-  pub make-grows : (l : List Segment) (p : Spot) → Grown l (make a l p)
-  unfolding make
-  make-grows l p =
-      by-cond (Grown l) (ltb (p .start) (length l))
-      (λ _. by-cond (Grown l) (eq (p .y) (getD l (p .start) none .start))
-      (λ _. started-grows l (p .start) (p .end) (p .y))
-      (λ _. le-trans (split-grows l (p .start) (p .y)) (started-grows (splitAt l (p .start) (p .y)) (suc (p .start)) (suc (p .end)) (p .y))))
-      (λ _. snoc-grows l (gapped l (endOf l) (p .y)) (seed a (larger (endOf l) (p .y)) (add binary32 (larger (endOf l) (p .y)) (a .height))) (gap-grows l (endOf l) (p .y)))
 
 cond-y : (t : Bool) (m k : Made) {x z : Float} → m .y ≡ x → k .y ≡ z → cond t m k .y ≡ cond t x z
 cond-y true m k p q = p

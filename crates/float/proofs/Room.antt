@@ -1,7 +1,7 @@
 -- A strip is full exactly where the made list is longer than the array; a list written to the front of the array on the way does not show in it.
 use Prim.Native.Nat.{ℕ, _<_, _≤_}
 use mathlib.Core.Path.{_≡_, ap, sym, _∙_}
-use mathlib.Core.Bool.{Bool, true, false, cond}
+use mathlib.Core.Bool.{Bool, false, cond}
 use mathlib.Core.List.{List}
 use borrow.Author.Tests.{le-leb, lt-leb}
 use lib.Dec.{leb}
@@ -44,8 +44,5 @@ module _ (array : List Segment) (a : Ask) (i : Float) where
       ∙ strip-over m (f m .bands) (f m .start) (f m .end) h
 
   -- a test that was made
-  pub strip-taken : (t : Bool) (m k : Made) (r : Strip) → t ≡ true → r ≡ stripMade array a i m → r ≡ stripMade array a i (cond t m k)
-  strip-taken t m k r h e = e ∙ ap (λ (t : Bool). stripMade array a i (cond t m k)) (sym h)
-
   pub strip-left : (t : Bool) (m k : Made) (r : Strip) → t ≡ false → r ≡ stripMade array a i k → r ≡ stripMade array a i (cond t m k)
   strip-left t m k r h e = e ∙ ap (λ (t : Bool). stripMade array a i (cond t m k)) (sym h)
