@@ -2,6 +2,7 @@ pub mod Numbers
 pub mod Refuse
 pub mod Bands
 pub mod Page
+pub mod Head
 pub mod Clear
 pub mod Fit
 pub mod Search

@@ -100,6 +100,20 @@ pub struct FloatContext {
     pub right_past: usize,
 }
 
+// A page without its two arrays, for a holder that keeps those where they lie.
+pub struct Head {
+    pub width: f32,
+    pub count: usize,
+    pub box_count: usize,
+    pub left_bottom: Bottom,
+    pub right_bottom: Bottom,
+    pub ceiling: Bottom,
+    pub left_first: usize,
+    pub left_past: usize,
+    pub right_first: usize,
+    pub right_past: usize,
+}
+
 // A placement's answer: x, y and the step count, or the refusal.
 pub enum PlaceAnswer {
     At(f32, f32, usize),
