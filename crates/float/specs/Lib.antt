@@ -10,4 +10,4 @@ pub mod Place
 pub mod Settle
 pub mod Slot
 pub mod Calculator
-pub mod Strip
+pub mod Plan

@@ -8,10 +8,11 @@ mod inplace;
 pub mod number;
 mod page;
 mod place;
+mod plan;
 mod refuse;
 mod search;
 mod slot;
-mod strip;
+mod writing;
 
 // The side that a box floats to.
 pub enum FloatDirection {
