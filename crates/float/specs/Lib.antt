@@ -7,7 +7,7 @@ pub mod Clear
 pub mod Fit
 pub mod Search
 pub mod Place
-pub mod Settle
+pub mod Plan
+pub mod Hold
 pub mod Slot
 pub mod Calculator
-pub mod Plan

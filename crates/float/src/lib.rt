@@ -4,6 +4,7 @@ mod band;
 mod calculator;
 mod clearing;
 pub mod fit;
+pub mod hold;
 mod inplace;
 pub mod number;
 mod page;
@@ -12,7 +13,6 @@ mod plan;
 mod refuse;
 mod search;
 mod slot;
-mod writing;
 
 // The side that a box floats to.
 pub enum FloatDirection {
