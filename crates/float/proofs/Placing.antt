@@ -29,7 +29,6 @@ use Rattle.float.specs.Page.{Page, pageOf, front, stored}
 use Rattle.float.specs.Place.{Call, askOf, lowest, firstAllowed, spotOf, boxOf, xOf, widthCheck, setWidth, widthOf}
 use Rattle.float.specs.Refuse.{sideOf, clearOf, checkOf}
 use Rattle.float.specs.Search.{searchFrom}
-use Rattle.float.specs.Settle.{bottomAfter, numberAfter, settledOf}
 use Rattle.float.proofs.Front.{front-nil, front-live, take-min}
 use Rattle.float.proofs.Bands.{clamped}
 
@@ -59,14 +58,6 @@ module _ (p : Page) (n lf lp rf rp f : ℕ) (k : Clear) (a : p .left .first ≡ 
   unfolding firstAllowed clearedPast
   allowed-both l r i g h m = simp i (omega arith)
 
--- what every accepted box does, from its parts
-pub settles : (p : FloatContext) (bands : List Segment) (count start past : ℕ) (a : Ask) (i y : Float) (k : ℕ) {b : PlacedFloatedBox} {x : Float} {l r c : Bottom} {lf lp rf rp : ℕ}
-    → b ≡ boxOf a i y → x ≡ xOf a i → l ≡ bottomAfter (a .side) FloatDirection.Left (p .«left_bottom») (add binary32 y (a .height)) → r ≡ bottomAfter (a .side) FloatDirection.Right (p .«right_bottom») (add binary32 y (a .height)) → c ≡ lower (p .ceiling) (Bottom.At y)
-    → lf ≡ numberAfter (a .side) FloatDirection.Left (p .«left_first») start → lp ≡ numberAfter (a .side) FloatDirection.Left (p .«left_past») past → rf ≡ numberAfter (a .side) FloatDirection.Right (p .«right_first») start → rp ≡ numberAfter (a .side) FloatDirection.Right (p .«right_past») past
-    → _≡_ {A = Placed} (record { answer = PlaceAnswer.At x y k; page = record { width = p .width; bands = bands; count = count; boxes = set (p .boxes) (p .«box_count») b; «box_count» = p .«box_count» + 1; «left_bottom» = l; «right_bottom» = r; ceiling = c; «left_first» = lf; «left_past» = lp; «right_first» = rf; «right_past» = rp } }) (settledOf p bands count start past a i y k)
-unfolding settledOf
-settles p bands count start past a i y k e f g h m n o q t = cc (e, f, g, h, m, n, o, q, t)
-
 -- ---- the width
 module _ (p : FloatContext) (w v : Float) (k : Check) (f : v ≡ plusZero w) (g : k ≡ checkOf true (size v ∷ [])) where
   pub width-refused : (n : Refusal) → k ≡ Check.Refused n → _≡_ {A = Widened} (record { answer = Done.Refused n; page = p }) (widthOf p w)
@@ -86,32 +77,3 @@ module _ (p : FloatContext) (w v : Float) (k : Check) (f : v ≡ plusZero w) (g 
       let t : front (take (p .count) (p .bands)) (p .bands) ≡ p .bands = front-live (p .count) (p .bands) in
       let u : front [] (p .boxes) ≡ p .boxes = front-nil (p .boxes) in
       simp (sym f, z, widthCheck, sym g, e, setWidth, c, t, u)
-
--- ---- rules 1 to 4
-module _ (p : FloatContext) (bands : length (p .bands) ≡ 96) (n : ℕ) (live : n ≡ min (p .count) 96) (a : Ask) (c : Call) (asks : a ≡ askOf (pageOf p) c) where
-  live-at : take n (p .bands) ≡ pageOf p .bands
-  unfolding pageOf
-  live-at = ap (λ (k : ℕ). take k (p .bands)) live ∙ take-min (p .bands) (p .count) 96 bands
-
-  spot-is : (y : Float) (f : ℕ) (s : Spot) → y ≡ lowest (pageOf p) c → min f n ≡ min (firstAllowed (pageOf p) (clearOf (c .clear))) n
-      → s ≡ searchFrom (take n (p .bands)) a (firstBelow (take n (p .bands)) f y) y → s ≡ spotOf (pageOf p) c
-  unfolding spotOf
-  spot-is y f s e g h =
-      let b : take n (p .bands) ≡ pageOf p .bands = live-at in
-      let m : length (pageOf p .bands) ≡ n = ap length (sym b) ∙ length-take-le n (p .bands) (omega arith) in
-      let i : firstBelow (pageOf p .bands) f y ≡ firstBelow (pageOf p .bands) (firstAllowed (pageOf p) (clearOf (c .clear))) y =
-      sym (clamped (pageOf p .bands) f y) ∙ ap (λ (k : ℕ). firstBelow (pageOf p .bands) k y) (ap (min f) m ∙ g ∙ sym (ap (min (firstAllowed (pageOf p) (clearOf (c .clear)))) m)) ∙ clamped (pageOf p .bands) (firstAllowed (pageOf p) (clearOf (c .clear))) y in
-      h ∙ ap (λ (l : List Segment). searchFrom l a (firstBelow l f y) y) b ∙ ap (λ (k : ℕ). searchFrom (pageOf p .bands) a k y) i ∙ ap (λ (z : Ask). searchFrom (pageOf p .bands) z (firstBelow (pageOf p .bands) (firstAllowed (pageOf p) (clearOf (c .clear))) y) y) asks
-      ∙ ap (λ (z : Float). searchFrom (pageOf p .bands) (askOf (pageOf p) c) (firstBelow (pageOf p .bands) (firstAllowed (pageOf p) (clearOf (c .clear))) z) z) e
-
-  -- the same as the code has it
-  pub spot-found : (minY : Float) (k : Clear) → c .minY ≡ minY → clearOf (c .clear) ≡ k → (t : Float) (b : Bottom) (y : Float) (f : ℕ) (s : Spot)
-      → t ≡ raiseTo minY (p .ceiling) → ((q : Page) → q .leftBottom ≡ p .«left_bottom» → q .rightBottom ≡ p .«right_bottom» → b ≡ cleared q k) → y ≡ raiseTo t b
-      → ((q : Page) → q .left .first ≡ p .«left_first» → q .left .past ≡ p .«left_past» → q .right .first ≡ p .«right_first» → q .right .past ≡ p .«right_past» → min f n ≡ min (firstAllowed q k) n)
-      → s ≡ searchFrom (take n (p .bands)) a (firstBelow (take n (p .bands)) f y) y → s ≡ spotOf (pageOf p) c
-  unfolding pageOf lowest
-  spot-found minY k e g t b y f s h i j m o =
-      spot-is y f s
-      (j ∙ ap₂ raiseTo (h ∙ ap (λ (z : Float). raiseTo z (p .ceiling)) (sym e)) (i (pageOf p) refl refl ∙ ap (cleared (pageOf p)) (sym g)))
-      (m (pageOf p) refl refl refl refl ∙ ap (λ (z : Clear). min (firstAllowed (pageOf p) z) n) (sym g))
-      o

@@ -1,7 +1,7 @@
 -- Placing in two phases, by a holder that keeps its page where it lies: what each part says of the whole. No promise to a reader names them. Definitions only.
-use Prim.Native.Nat.{ℕ, _+_, _-_, _<_, _≤_, min, max}
+use Prim.Native.Nat.{ℕ, _+_, _<_, _≤_, min, max}
 use mathlib.Core.Path.{_≡_}
-use mathlib.Core.Bool.{true, false, cond}
+use mathlib.Core.Bool.{Bool, true, false, cond}
 use mathlib.Core.List.{List}
 use lib.Dec.{ltb, leb}
 use lib.Ieee.{Float, binary32, add}
@@ -75,14 +75,18 @@ headAfter h a p = record {
 abbrev pub refusedEntry : Head → Plan → PlacedFloatedBox → Refusal → Entry
 refusedEntry h p b n = record { accepted = false; answer = PlaceAnswer.Refused n; head = h; plan = p; floated = b }
 
--- refusals 6 and 7, then what the plan p answers and keeps
-unfoldable pub enteredOf : Head → Ask → Spot → Plan → Entry
-enteredOf h a s p =
-    cond (near a (s .inset) (p .y))
-    (cond (leb (p .count) maxBands)
+-- what the plan p answers and keeps, where its box is near enough and its bands are few enough
+abbrev pub enteredAs : Head → Ask → Spot → Plan → Bool → Bool → Entry
+enteredAs h a s p near few =
+    cond near
+    (cond few
     (record { accepted = true; answer = PlaceAnswer.At (xOf a (s .inset)) (p .y) (s .steps); head = headAfter h a p; plan = p; floated = boxOf a (s .inset) (p .y) })
     (refusedEntry h p (boxOf a (s .inset) (p .y)) Refusal.BandsFull))
     (refusedEntry h p (boxOf a (s .inset) (p .y)) Refusal.TooFar)
+
+-- refusals 6 and 7
+unfoldable pub enteredOf : Head → Ask → Spot → Plan → Entry
+enteredOf h a s p = enteredAs h a s p (near a (s .inset) (p .y)) (leb (p .count) maxBands)
 
 -- r enters the call c on the page of h, bs and xs: refused, the placement is and the head is kept; accepted, it is the new head with the bands that the plan writes and the box
 pub record Enters (bs : List Segment) (xs : List PlacedFloatedBox) (h : Head) (c : Call) (a : Ask) (r : Entry) : Type 0 where

@@ -25,11 +25,11 @@ use crate::fit::Ask;
 use crate::number;
 use crate::place;
 use crate::plan;
-use crate::plan::Plan;
+pub use crate::plan::Plan;
 use crate::refuse;
-use crate::refuse::Check;
+pub use crate::refuse::Check;
 use crate::search;
-use crate::search::Spot;
+pub use crate::search::Spot;
 
 // What is asked of a place, the number n of bands, at most 96, the first band allowed and y; where the check is passed.
 pub struct Admission {

@@ -1,6 +1,5 @@
 -- `float::plan::plan_of` meets its contract: the start and the end choose the plan.
 use borrow.Author.Needs.{needs}
-use native.Mathlib.Omega.{arith}
 use Rattle.float.proofs.Coded.{from-below, from-past, from-end}
 use Rattle.float.proofs.plan.plan_of.Statement.{statement}
 use Rattle.float.proofs.plan.plan_of.Tie as tie
@@ -21,7 +20,7 @@ returns-2 : tie.Need-returns-2
 returns-2 c = from-past _ _ _ _ _ _ _ _ _ (c .before .before .before .before .if1 .left) (c .before .if2 .taken) (c .before .before .before .starts-inside .ensures) (c .past-plan .ensures)
 
 moved-requires : tie.Need-moved-requires
-moved-requires c κs = let e = c .before .before .before .before .before .pre .1 (c .if2 .left) in omega arith
+moved-requires c κs = search needs
 
 part-requires : tie.Need-part-requires
 part-requires c κs = search needs
@@ -30,7 +29,7 @@ inside-requires : tie.Need-inside-requires
 inside-requires c κs = search needs
 
 end-plan-requires : tie.Need-end-plan-requires
-end-plan-requires c κs = (c .before .before .before .before .before .before .before .before .before .before .pre .0, c .before .before .before .before .before .before .before .before .if1 .left, c .before .before .before .before .before .before .before .before .before .before .pre .1 (c .before .before .before .before .before .if2 .left))
+end-plan-requires c κs = search needs
 
 returns-3 : tie.Need-returns-3
 returns-3 c = from-end _ _ _ _ _ _ _ _ _ _ _ _ (c .before .before .before .before .before .before .before .before .before .if1 .left) (c .before .before .before .before .before .before .if2 .left) (c .before .before .before .before .before .before .before .before .starts-inside .ensures) (c .before .before .before .before .before .moved .ensures .0) (c .before .before .before .before .part .ensures) (c .before .inside .ensures) (c .end-plan .ensures)
