@@ -18,13 +18,11 @@ use Rattle.float.specs.declared.PlacedFloatedBox.{PlacedFloatedBox}
 use Rattle.float.specs.declared.Refusal.{Refusal}
 use Rattle.float.specs.declared.Segment.{Segment}
 use Rattle.float.specs.declared.fit.Ask.{Ask}
-use Rattle.float.specs.declared.hold.Admission.{Admission}
 use Rattle.float.specs.declared.refuse.Check.{Check}
-use Rattle.float.specs.declared.search.Spot.{Spot}
 use Rattle.float.specs.Bands.{firstBelow}
 use Rattle.float.specs.Clear.{raiseTo, cleared}
 use Rattle.float.specs.Head.{pageWith}
-use Rattle.float.specs.Hold.{roomCheck, soughtIn, Admits}
+use Rattle.float.specs.Hold.{roomCheck, Admits}
 use Rattle.float.specs.Numbers.{size, offset, plusZero}
 use Rattle.float.specs.Page.{Page, pageOf}
 use Rattle.float.specs.Place.{Call, cleaned, inputCheck, lowest, firstAllowed, askOf, spotOf, put, admitted, checked, place, held, placeOf}

@@ -1,36 +1,27 @@
--- Placing: from what the code's parts answer to the definitions of rules 1, 2, 5 and 8 and of the refusals.
+-- From what the leaves of a placement answer to its definitions: what is asked, rule 2; and the width.
 use Prim.Native.Nat.{ℕ, suc, _+_, _≤_, _<_, min, max}
-use mathlib.Core.Path.{_≡_, refl, sym, ap, ap₂, _∙_}
+use mathlib.Core.Path.{_≡_, sym}
 use mathlib.Core.Bool.{true}
-use mathlib.Core.List.{List, [], _∷_}
+use mathlib.Core.List.{[], _∷_}
 use native.Mathlib.Omega.{arith}
 use borrow.Author.Tests.{ne-eqb}
-use lib.Ieee.{Float, binary32, add}
-use lib.ListN.{length, take, set, length-take}
-use lib.Seq.{length-take-le}
-use Rattle.float.specs.declared.Bottom.{Bottom}
+use lib.Ieee.{Float}
+use lib.ListN.{length, take, length-take}
 use Rattle.float.specs.declared.Clear.{Clear}
 use Rattle.float.specs.declared.Done.{Done}
 use Rattle.float.specs.declared.FloatContext.{FloatContext}
 use Rattle.float.specs.declared.FloatDirection.{FloatDirection}
-use Rattle.float.specs.declared.PlaceAnswer.{PlaceAnswer}
-use Rattle.float.specs.declared.Placed.{Placed}
-use Rattle.float.specs.declared.PlacedFloatedBox.{PlacedFloatedBox}
 use Rattle.float.specs.declared.Refusal.{Refusal}
-use Rattle.float.specs.declared.Segment.{Segment}
 use Rattle.float.specs.declared.Widened.{Widened}
 use Rattle.float.specs.declared.fit.Ask.{Ask}
 use Rattle.float.specs.declared.refuse.Check.{Check}
-use Rattle.float.specs.declared.search.Spot.{Spot}
 use Rattle.float.specs.Numbers.{size, plusZero}
-use Rattle.float.specs.Bands.{onSide, firstBelow}
-use Rattle.float.specs.Clear.{lower, raiseTo, cleared, clearedPast}
+use Rattle.float.specs.Bands.{onSide}
+use Rattle.float.specs.Clear.{clearedPast}
 use Rattle.float.specs.Page.{Page, pageOf, front, stored}
-use Rattle.float.specs.Place.{Call, askOf, lowest, firstAllowed, spotOf, boxOf, xOf, widthCheck, setWidth, widthOf}
-use Rattle.float.specs.Refuse.{sideOf, clearOf, checkOf}
-use Rattle.float.specs.Search.{searchFrom}
-use Rattle.float.proofs.Front.{front-nil, front-live, take-min}
-use Rattle.float.proofs.Bands.{clamped}
+use Rattle.float.specs.Place.{Call, askOf, firstAllowed, widthCheck, setWidth, widthOf}
+use Rattle.float.specs.Refuse.{sideOf, checkOf}
+use Rattle.float.proofs.Front.{front-nil, front-live}
 
 -- what is asked of a place, from its numbers
 pub asked : (w h pw l r : Float) (s : FloatDirection) (p : Page) (c : Call) → p .width ≡ pw → c .width ≡ w → c .height ≡ h → c .left ≡ l → c .right ≡ r → sideOf (c .side) ≡ s
