@@ -33,7 +33,7 @@ use Rattle.float.specs.Plan.{stillPlan, planFrom, source, shaped, Tab}
 use Rattle.float.specs.Search.{searchFrom}
 use Rattle.float.proofs.Holding.{looked-order}
 use Rattle.float.proofs.Make.{walk-between}
-use Rattle.float.proofs.Planned.{code-count, code-start, code-end, code-y, code-room, code-bands}
+use Rattle.float.proofs.Planned.{Recorded, code-recorded}
 use Rattle.float.proofs.Settled.{live-bands, flat-far, flat-settled, high-far, high-full, high-settled}
 
 -- the literal 0.0
@@ -143,27 +143,20 @@ module _ (h : Head) (adm : Admission) (s : Spot) (n : ℕ) (en : n ≡ min (adm 
         let l = live-bands h bs xs bands boxes n live few (adm .ask) s in
         simp (put, t, l)
 
-    count-is : length (M .bands) ≡ p .count
-    count-is = code-count (adm .ask) bs n s bands most (order .0) (order .1) z last-is i end-is first end start-at end-at p ep
-
-    y-is : M .y ≡ p .y
-    y-is = code-y (adm .ask) bs n s bands most (order .0) (order .1) z last-is i end-is first end start-at end-at p ep
+    made : Recorded (adm .ask) bs n s p
+    made = code-recorded (adm .ask) bs n s bands most (order .0) (order .1) z last-is i end-is first end start-at end-at p ep
 
     near-is : (t : Bool) → near (adm .ask) (s .inset) (p .y) ≡ t → near (adm .ask) (s .inset) (M .y) ≡ t
-    near-is t u = ap (near (adm .ask) (s .inset)) y-is ∙ u
+    near-is t u = ap (near (adm .ask) (s .inset)) (made .y) ∙ u
 
     right : Right h bs xs (adm .ask) s p (held (pageWith h bs xs) (high (pageOf (pageWith h bs xs)) (adm .ask) s M))
     right = record {
       far = λ t. high-far h bs xs bands boxes n live few (adm .ask) s M (near-is false t);
-      full = λ t u. high-full h bs xs bands boxes n live few (adm .ask) s M (near-is true t) (lt-leb (length (M .bands)) 96 (omega (arith, count-is)));
-      room = code-room (adm .ask) bs n s bands most (order .0) (order .1) z last-is i end-is first end start-at end-at p ep;
+      full = λ t u. high-full h bs xs bands boxes n live few (adm .ask) s M (near-is true t) (lt-leb (length (M .bands)) 96 (omega (arith, made .count)));
+      room = made .room;
       done = λ t u q v.
-          high-settled h bs xs bands boxes n live few (adm .ask) s M (near-is true t) (le-leb (length (M .bands)) 96 (omega (arith, count-is))) p count-is
-          (code-start (adm .ask) bs n s bands most (order .0) (order .1) z last-is i end-is first end start-at end-at p ep)
-          (code-end (adm .ask) bs n s bands most (order .0) (order .1) z last-is i end-is first end start-at end-at p ep)
-          y-is
-          ∙ ap (λ (b : List Segment). record { answer = PlaceAnswer.At (xOf (adm .ask) (s .inset)) (p .y) (s .steps); page = pageWith (headAfter h (adm .ask) p) b (set xs (h .«box_count») (boxOf (adm .ask) (s .inset) (p .y))) })
-          (sym (code-bands (adm .ask) bs n s bands most (order .0) (order .1) z last-is i end-is first end start-at end-at p ep u q v));
+          high-settled h bs xs bands boxes n live few (adm .ask) s M (near-is true t) (le-leb (length (M .bands)) 96 (omega (arith, made .count))) p (made .count) (made .start) (made .past) (made .y)
+          ∙ ap (λ (b : List Segment). record { answer = PlaceAnswer.At (xOf (adm .ask) (s .inset)) (p .y) (s .steps); page = pageWith (headAfter h (adm .ask) p) b (set xs (h .«box_count») (boxOf (adm .ask) (s .inset) (p .y))) }) (sym (made .bands u q v));
     }
 
     pub enters-high : (r : Entry) → r ≡ enteredOf h (adm .ask) s p → Enters bs xs h c (adm .ask) r
