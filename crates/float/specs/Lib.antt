@@ -9,5 +9,6 @@ pub mod Search
 pub mod Place
 pub mod Settle
 pub mod Slot
+pub mod Quest
 pub mod Calculator
 pub mod Strip
