@@ -1,25 +1,22 @@
--- Laws of the questions' search: a clamped first number finds the same band, and the search goes by the tests that the code makes.
-use Prim.Native.Nat.{ℕ, zero, suc, _<_, _≤_, min, max}
-use mathlib.Core.Path.{_≡_, refl, sym, ap, _∙_}
-use mathlib.Core.Bool.{Bool, true, false, cond}
-use mathlib.Core.List.{List}
-use borrow.Author.Tests.{ltb-true, lt-ltb, le-ltb}
+-- Laws of the slots: the first number allowed, clamped to the number of places; and the slot by where the search lands.
+use Prim.Native.Nat.{ℕ, zero, suc, min, max}
+use mathlib.Core.Path.{_≡_, refl, ap, ap₂, _∙_}
 use native.Mathlib.Omega.{arith}
-use lib.Dec.{ltb}
 use lib.Ieee.{Float}
-use lib.ListN.{length, take}
-use lib.Seq.{length-take-le}
+use lib.ListN.{getD}
+use Rattle.f32_laws.specs.Numbers.{larger}
 use Rattle.float.specs.declared.BandNumber.{BandNumber}
-use Rattle.float.specs.declared.Bottom.{Bottom}
-use Rattle.float.specs.declared.Clear.{Clear}
+use Rattle.float.specs.declared.BfcSlot.{BfcSlot}
+use Rattle.float.specs.declared.ContentSlot.{ContentSlot}
+use Rattle.float.specs.declared.Direction.{Direction}
 use Rattle.float.specs.declared.Segment.{Segment}
+use Rattle.float.specs.declared.bfc.BfcBoxes.{BfcBoxes}
+use Rattle.float.specs.declared.bfc.BfcInsets.{BfcInsets}
+use Rattle.float.specs.declared.slot.Insets.{Insets}
 use Rattle.float.specs.declared.slot.Sought.{Sought}
-use Rattle.float.specs.Bands.{firstBelow}
+use Rattle.float.specs.Bands.{none, lastEnd}
 use Rattle.float.specs.Page.{Page, maxBands}
-use Rattle.float.specs.Clear.{raiseTo, cleared, clearedPast}
-use Rattle.float.specs.Slot.{active, from, pastOver, seek}
-use Rattle.float.proofs.Bands.{clamped, past-in as below-none}
-use Rattle.float.proofs.Front.{take-min}
+use Rattle.float.specs.Slot.{from, pastOver, besideBand, contentAt, contentSlot, besideBoth, besideNone, bfcAt, bfcSlot}
 
 -- ---- the first number allowed, clamped to the number of places
 
@@ -37,85 +34,31 @@ module _ {after : BandNumber} (past : ℕ) {b : ℕ} (eb : b ≡ min (pastOver p
   pub allowed-some : {k a r : ℕ} → after ≡ BandNumber.At k → a ≡ min (suc k) maxBands → r ≡ max a b → r ≡ min (max (from after) (pastOver past)) maxBands
   allowed-some ea e er = rw ea (omega arith)
 
-clamped-at : (l : List Segment) (f m : ℕ) (y : Float) → length l ≤ m → firstBelow l (min f m) y ≡ firstBelow l f y
-clamped-at l f m y h = sym (clamped l (min f m) y) ∙ ap (λ k. firstBelow l k y) (omega arith) ∙ clamped l f y
+-- ---- the slots: s is where the search landed, y its height, v the slot's y
 
--- ---- the search
+module _ (p : Page) {s : Sought} {y : Float} where
+  module _ (cb : Insets) {o : ContentSlot} where
+    pub content-quiet : s ≡ Sought.Quiet y → o ≡ contentAt p BandNumber.None y cb → o ≡ contentSlot p cb s
+    unfolding contentSlot
+    content-quiet es eo = rw es eo
 
-pub active-is : (bs : List Segment) (n : ℕ) (y : Float) {i : ℕ} → n ≤ length bs → i ≡ firstBelow (take n bs) 0 y → ltb i n ≡ active (take n bs) y
-unfolding active
-active-is bs n y h e = rw (length-take-le, e)
+    pub content-past : s ≡ Sought.Past y → o ≡ contentAt p BandNumber.None y cb → o ≡ contentSlot p cb s
+    unfolding contentSlot
+    content-past es eo = rw es eo
 
-pub active-some : (bs : List Segment) (n : ℕ) (y : Float) (i : ℕ) → n ≤ length bs → i < n → firstBelow (take n bs) 0 y ≡ i → true ≡ active (take n bs) y
-active-some bs n y i h k e = sym (lt-ltb i n k) ∙ active-is bs n y h (sym e)
+    pub content-at : {i : ℕ} {b : Segment} {v : Float} {k : Insets} → s ≡ Sought.At i y → ((i : ℕ) (y : Float) → s ≡ Sought.At i y → b ≡ getD (p .bands) i none) → v ≡ larger y (b .start) → k ≡ besideBand b cb → o ≡ contentAt p (BandNumber.At i) v k → o ≡ contentSlot p cb s
+    unfolding contentSlot
+    content-at {i} es read ev ek eo = rw (es, ← read i y es) (eo ∙ ap₂ (contentAt p (BandNumber.At i)) ev ek)
 
-pub active-none : (bs : List Segment) (n : ℕ) (y : Float) → n ≤ length bs → firstBelow (take n bs) 0 y ≡ n → false ≡ active (take n bs) y
-active-none bs n y h e = sym (le-ltb n n (omega arith)) ∙ active-is bs n y h (sym e)
+  module _ (d : Direction) (k : BfcInsets) {o : BfcSlot} {a : BfcBoxes} where
+    pub bfc-quiet : s ≡ Sought.Quiet y → a ≡ besideNone k → o ≡ bfcAt p BandNumber.None y a → o ≡ bfcSlot p d k s
+    unfolding bfcSlot
+    bfc-quiet es ea eo = rw es (eo ∙ ap (bfcAt p BandNumber.None y) ea)
 
--- a search that was left at i found no band
-pub past-all : (bs : List Segment) (n f : ℕ) (z : Float) → n ≤ length bs → (i : ℕ) → firstBelow (take n bs) f z ≡ firstBelow (take n bs) i z → n ≤ i → n ≤ firstBelow (take n bs) f z
-past-all bs n f z h i e k = omega (arith, e ∙ below-none bs n z h i k)
+    pub bfc-past : {e v : Float} → s ≡ Sought.Past y → ((y : Float) → s ≡ Sought.Past y → e ≡ lastEnd y (p .bands)) → v ≡ larger y e → a ≡ besideNone k → o ≡ bfcAt p BandNumber.None v a → o ≡ bfcSlot p d k s
+    unfolding bfcSlot
+    bfc-past es read ev ea eo = rw (es, ← read y es) (eo ∙ ap₂ (bfcAt p BandNumber.None) ev ea)
 
--- a page whose bands are the first count of an array with 96 places
-module _ (p : Page) (bs : List Segment) (count : ℕ) {n : ℕ} (eb : p .bands ≡ take count bs) (l : length bs ≡ 96) (en : n ≡ min count 96) where
-  pub live : p .bands ≡ take n bs
-  live = eb ∙ sym (take-min bs count 96 l) ∙ ap (λ k. take k bs) (sym en)
-
-  live-length : length (p .bands) ≡ n
-  live-length = ap length live ∙ length-take-le n bs (omega arith)
-
-  module _ (c : Clear) (after : BandNumber) (y : Float) {t : Bool} (et : t ≡ active (take n bs) y) where
-    pub seek-quiet : t ≡ false → Sought.Quiet y ≡ seek p c after y
-    unfolding seek
-    seek-quiet e = let q : active (p .bands) y ≡ false = cc live in rw (q, seek)
-
-    -- z is min_y raised to the cleared bottoms, f the first number allowed, i the band found
-    module _ {b : Bottom} {z : Float} {past f i : ℕ} (ec : b ≡ cleared p c) (ez : z ≡ raiseTo y b) (ep : past ≡ clearedPast p c) (ef : f ≡ min (max (from after) (pastOver past)) maxBands) (e : t ≡ true) (ei : i ≡ firstBelow (take n bs) f z) where
-      whole : i ≡ firstBelow (p .bands) (max (from after) (pastOver (clearedPast p c))) (raiseTo y (cleared p c))
-      whole =
-          let h = live-length in
-          let k = clamped-at (p .bands) (max (from after) (pastOver past)) 96 z (omega arith) in
-          cc live
-
-      pub seek-at : i < n → Sought.At i z ≡ seek p c after y
-      unfolding seek
-      seek-at h =
-          let q : active (p .bands) y ≡ true = cc live in
-          let g : ltb i (length (p .bands)) ≡ true = rw live-length (lt-ltb i n h) in
-          rw (q, ← whole, g, seek) (cc)
-
-      pub seek-past : n ≤ i → Sought.Past z ≡ seek p c after y
-      unfolding seek
-      seek-past h =
-          let q : active (p .bands) y ≡ true = cc live in
-          let g : ltb i (length (p .bands)) ≡ false = rw live-length (le-ltb i n h) in
-          rw (q, ← whole, g, seek) (cc)
-
--- ---- where the search lands
-
--- by the two tests of the search, a: a band is active, t: the number found is that of a band
-module _ (j : ℕ) (y w : Float) where
-  at-told : (a t : Bool) {i : ℕ} {z : Float} → Sought.At i z ≡ cond a (cond t (Sought.At j w) (Sought.Past w)) (Sought.Quiet y) → (i ≡ j) × (t ≡ true)
-  at-told true true e = (cc, refl)
-  at-told true false e = let n : _≡_ {A = ℕ} 0 1 = cc in absurd (omega arith)
-  at-told false t e = let n : _≡_ {A = ℕ} 0 1 = cc in absurd (omega arith)
-
-  past-told : (a t : Bool) {z : Float} → Sought.Past z ≡ cond a (cond t (Sought.At j w) (Sought.Past w)) (Sought.Quiet y) → a ≡ true
-  past-told true t e = refl
-  past-told false t e = let n : _≡_ {A = ℕ} 0 1 = cc in absurd (omega arith)
-
-module _ (p : Page) (c : Clear) (after : BandNumber) (y : Float) {s : Sought} (es : s ≡ seek p c after y) where
-  band : ℕ
-  band = firstBelow (p .bands) (max (from after) (pastOver (clearedPast p c))) (raiseTo y (cleared p c))
-
-  pub at-in : {i : ℕ} {z : Float} → s ≡ Sought.At i z → i < length (p .bands)
-  unfolding seek band
-  at-in e =
-      let h = at-told band y (raiseTo y (cleared p c)) (active (p .bands) y) (ltb band (length (p .bands))) (sym e ∙ es) in
-      omega (arith, ltb-true band (length (p .bands)) (h .1))
-
-  pub past-in : {z : Float} → s ≡ Sought.Past z → 0 < length (p .bands)
-  unfolding seek active band
-  past-in e =
-      let h = past-told band y (raiseTo y (cleared p c)) (active (p .bands) y) (ltb band (length (p .bands))) (sym e ∙ es) in
-      omega (arith, ltb-true (firstBelow (p .bands) 0 y) (length (p .bands)) h)
+    pub bfc-at : {i : ℕ} {b : Segment} {v : Float} → s ≡ Sought.At i y → ((i : ℕ) (y : Float) → s ≡ Sought.At i y → b ≡ getD (p .bands) i none) → v ≡ larger y (b .start) → a ≡ besideBoth d b k → o ≡ bfcAt p (BandNumber.At i) v a → o ≡ bfcSlot p d k s
+    unfolding bfcSlot
+    bfc-at {i} es read ev ea eo = rw (es, ← read i y es) (eo ∙ ap₂ (bfcAt p (BandNumber.At i)) ev ea)

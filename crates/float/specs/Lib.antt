@@ -10,4 +10,5 @@ pub mod Place
 pub mod Plan
 pub mod Hold
 pub mod Slot
+pub mod Quest
 pub mod Calculator

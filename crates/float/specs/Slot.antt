@@ -20,10 +20,13 @@ use Rattle.float.specs.declared.Segment.{Segment}
 use Rattle.float.specs.declared.Threshold.{Threshold}
 use Rattle.float.specs.declared.YesNo.{YesNo}
 use Rattle.float.specs.declared.refuse.Check.{Check}
+use Rattle.float.specs.declared.bfc.BfcBoxes.{BfcBoxes}
+use Rattle.float.specs.declared.bfc.BfcInsets.{BfcInsets}
+use Rattle.float.specs.declared.slot.Insets.{Insets}
 use Rattle.float.specs.declared.slot.Sought.{Sought}
 use Rattle.float.specs.Numbers.{size, offset, plusZero}
 use Rattle.float.specs.Refuse.{clearOf, directionOf, checkOf}
-use Rattle.float.specs.Bands.{none, sameSide, lead, hasFloat, lastEnd, firstBelow}
+use Rattle.float.specs.Bands.{none, onSide, sameSide, lead, hasFloat, lastEnd, firstBelow}
 use Rattle.float.specs.Page.{Page, front, noBox, maxBoxes}
 use Rattle.float.specs.Clear.{raiseTo, cleared, clearedPast}
 
@@ -38,9 +41,11 @@ unfoldable pub active : List Segment → Float → Bool
 active l y = ltb (firstBelow l 0 y) (length l)
 
 -- `has_active_floats`: refusals 2 and 3
+abbrev pub activeAsked : Page → Float → YesNo
+activeAsked p y = elim (checkOf true (offset y ∷ [])) [ Check.Passed ↦ YesNo.Answer (active (p .bands) y) | Check.Refused n ↦ YesNo.Refused n ]
+
 unfoldable pub hasActiveFloats : Page → Float → YesNo
-hasActiveFloats p y =
-    elim (checkOf true (offset (plusZero y) ∷ [])) [ Check.Passed ↦ YesNo.Answer (active (p .bands) (plusZero y)) | Check.Refused n ↦ YesNo.Refused n ]
+hasActiveFloats p y = activeAsked p (plusZero y)
 
 -- `cleared_threshold`: refusal 1
 unfoldable pub clearedThreshold : Page → ℕ → Threshold
@@ -70,6 +75,10 @@ abbrev pub pastOver : ℕ → ℕ
 pastOver zero = zero
 pastOver (suc n) = suc (suc n)
 
+-- the larger of the two
+abbrev pub allowedFrom : Page → Clear → BandNumber → ℕ
+allowedFrom p c after = max (from after) (pastOver (clearedPast p c))
+
 -- the band i at y, or past the last
 abbrev pub landed : List Segment → ℕ → Float → Sought
 landed l i y = cond (ltb i (length l)) (Sought.At i y) (Sought.Past y)
@@ -78,24 +87,14 @@ landed l i y = cond (ltb i (length l)) (Sought.At i y) (Sought.Past y)
 unfoldable pub seek : Page → Clear → BandNumber → Float → Sought
 seek p c after y =
     cond (active (p .bands) y)
-    (landed (p .bands) (firstBelow (p .bands) (max (from after) (pastOver (clearedPast p c))) (raiseTo y (cleared p c))) (raiseTo y (cleared p c)))
+    (landed (p .bands) (firstBelow (p .bands) (allowedFrom p c after) (raiseTo y (cleared p c))) (raiseTo y (cleared p c)))
     (Sought.Quiet y)
 
--- the page width less two insets
-abbrev pub less : Float → Float → Float → Float
-less w l r = sub binary32 (sub binary32 w l) r
+-- the page width less left less right
+abbrev pub less : Page → Insets → Float
+less p i = sub binary32 (sub binary32 (p .width) (i .left)) (i .right)
 
 -- ---- content
-
-abbrev pub contentAt : Float → BandNumber → Float → Float → Float → ContentSlot
-contentAt w n y l r = record { band = n; x = l; y = y; width = less w l r }
-
-unfoldable pub contentSlot : Page → Float → Float → Sought → ContentSlot
-contentSlot p l r (Sought.Quiet y) = contentAt (p .width) BandNumber.None y l r
-contentSlot p l r (Sought.Past y) = contentAt (p .width) BandNumber.None y l r
-contentSlot p l r (Sought.At i y) =
-    let b = getD (p .bands) i none in
-    contentAt (p .width) (BandNumber.At i) (larger y (b .start)) (larger (b .left) l) (larger (b .right) r)
 
 -- a content question as it is handed in
 pub record ContentCall : Type 0 where
@@ -105,43 +104,41 @@ pub record ContentCall : Type 0 where
   pub clear : ℕ
   pub after : BandNumber
 
-unfoldable pub content : Page → ContentCall → ContentAnswer
-content p c =
-    elim (checkOf (ltb (c .clear) 4) (offset (plusZero (c .minY)) ∷ size (plusZero (c .left)) ∷ size (plusZero (c .right)) ∷ [])) [
-      | Check.Passed ↦ ContentAnswer.Slot (contentSlot p (plusZero (c .left)) (plusZero (c .right)) (seek p (clearOf (c .clear)) (c .after) (plusZero (c .minY))))
+-- the same with plus zero for minus zero
+abbrev pub contentCleaned : ContentCall → ContentCall
+contentCleaned c = record { minY = plusZero (c .minY); left = plusZero (c .left); right = plusZero (c .right); clear = c .clear; after = c .after }
+
+abbrev pub contentCheck : ContentCall → Check
+contentCheck c = checkOf (ltb (c .clear) 4) (offset (c .minY) ∷ size (c .left) ∷ size (c .right) ∷ [])
+
+-- each inset is the larger of the band's and the containing one
+abbrev pub besideBand : Segment → Insets → Insets
+besideBand b cb = record { left = larger (b .left) (cb .left); right = larger (b .right) (cb .right) }
+
+-- x is the left inset
+abbrev pub contentAt : Page → BandNumber → Float → Insets → ContentSlot
+contentAt p n y i = record { band = n; x = i .left; y = y; width = less p i }
+
+-- y is the larger of min_y and the band's start, or min_y as it stands
+unfoldable pub contentSlot : Page → Insets → Sought → ContentSlot
+contentSlot p cb (Sought.Quiet y) = contentAt p BandNumber.None y cb
+contentSlot p cb (Sought.Past y) = contentAt p BandNumber.None y cb
+contentSlot p cb (Sought.At i y) =
+    let b = getD (p .bands) i none in
+    contentAt p (BandNumber.At i) (larger y (b .start)) (besideBand b cb)
+
+abbrev pub contentAsked : Page → ContentCall → ContentAnswer
+contentAsked p c =
+    elim (contentCheck c) [
+      | Check.Passed ↦ ContentAnswer.Slot (contentSlot p (record { left = c .left; right = c .right }) (seek p (clearOf (c .clear)) (c .after) (c .minY)))
       | Check.Refused n ↦ ContentAnswer.Refused n
     ]
 
+-- `find_content_slot`
+unfoldable pub content : Page → ContentCall → ContentAnswer
+content p c = contentAsked p (contentCleaned c)
+
 -- ---- BFC
-
--- a side's margin inset m, by the band: raised to the band's inset if marked
-abbrev pub stretchInset : FloatDirection → Segment → Float → Float
-stretchInset s b m = cond (hasFloat s b) (larger (lead s b) m) m
-
--- the trail side's border inset, with the containing inset c
-abbrev pub trailInset : FloatDirection → Segment → Float → Float → Float
-trailInset s b c m = cond (hasFloat s b) (larger (lead s b) c) (smaller m c)
-
--- the lead side of a direction
-abbrev pub leadSide : Direction → FloatDirection
-leadSide Direction.Ltr = FloatDirection.Left
-leadSide Direction.Rtl = FloatDirection.Right
-
--- the border inset of the side s: lead as for stretch
-abbrev pub borderInset : Direction → FloatDirection → Segment → Float → Float → Float
-borderInset d s b c m = cond (sameSide s (leadSide d)) (stretchInset s b m) (trailInset s b c m)
-
--- the insets of the border box and of the stretched box
-abbrev pub bfcAt : Float → BandNumber → Float → Float → Float → Float → Float → BfcSlot
-bfcAt w n y bl br sl sr = record { band = n; x = bl; y = y; «border_width» = less w bl br; «stretch_width» = less w sl sr }
-
--- cl and cr are the containing insets, ml and mr the margin insets
-unfoldable pub bfcSlot : Page → Direction → Float → Float → Float → Float → Sought → BfcSlot
-bfcSlot p d cl cr ml mr (Sought.Quiet y) = bfcAt (p .width) BandNumber.None y ml mr ml mr
-bfcSlot p d cl cr ml mr (Sought.Past y) = bfcAt (p .width) BandNumber.None (larger y (lastEnd y (p .bands))) ml mr ml mr
-bfcSlot p d cl cr ml mr (Sought.At i y) =
-    let b = getD (p .bands) i none in
-    bfcAt (p .width) (BandNumber.At i) (larger y (b .start)) (borderInset d FloatDirection.Left b cl ml) (borderInset d FloatDirection.Right b cr mr) (stretchInset FloatDirection.Left b ml) (stretchInset FloatDirection.Right b mr)
 
 -- a BFC question as it is handed in
 pub record BfcCall : Type 0 where
@@ -154,15 +151,81 @@ pub record BfcCall : Type 0 where
   pub clear : ℕ
   pub after : BandNumber
 
+-- the same with plus zero for minus zero
+abbrev pub bfcCleaned : BfcCall → BfcCall
+bfcCleaned c = record {
+  minY = plusZero (c .minY);
+  left = plusZero (c .left);
+  right = plusZero (c .right);
+  leftMargin = plusZero (c .leftMargin);
+  rightMargin = plusZero (c .rightMargin);
+  direction = c .direction;
+  clear = c .clear;
+  after = c .after;
+}
+
 abbrev pub bfcCheck : BfcCall → Check
-bfcCheck c = checkOf (ltb (c .direction) 2 && ltb (c .clear) 4) (offset (plusZero (c .minY)) ∷ size (plusZero (c .left)) ∷ size (plusZero (c .right)) ∷ offset (plusZero (c .leftMargin)) ∷ offset (plusZero (c .rightMargin)) ∷ [])
+bfcCheck c =
+    checkOf (ltb (c .direction) 2 && ltb (c .clear) 4)
+    (offset (c .minY) ∷ size (c .left) ∷ size (c .right) ∷ offset (c .leftMargin) ∷ offset (c .rightMargin) ∷ [])
 
 -- a margin inset is containing inset plus margin
-unfoldable pub bfc : Page → BfcCall → BfcAnswer
-bfc p c =
-    let l = plusZero (c .left) in
-    let r = plusZero (c .right) in
+abbrev pub bfcInsets : BfcCall → BfcInsets
+bfcInsets c = record {
+  containing = record { left = c .left; right = c .right };
+  margin = record { left = add binary32 (c .left) (c .leftMargin); right = add binary32 (c .right) (c .rightMargin) };
+}
+
+-- the inset of one side
+abbrev pub insetOn : FloatDirection → Insets → Float
+insetOn s i = onSide s (i .left) (i .right)
+
+-- the lead side of a direction
+abbrev pub leadSide : Direction → FloatDirection
+leadSide Direction.Ltr = FloatDirection.Left
+leadSide Direction.Rtl = FloatDirection.Right
+
+-- lead, for both widths, and trail for stretch: the margin inset, raised to the band's if marked
+abbrev pub stretchInset : Segment → BfcInsets → FloatDirection → Float
+stretchInset b i s = cond (hasFloat s b) (larger (lead s b) (insetOn s (i .margin))) (insetOn s (i .margin))
+
+-- trail for border: marked, the larger of the band's and the containing inset; unmarked, the smaller of margin inset and containing inset
+abbrev pub trailInset : Segment → BfcInsets → FloatDirection → Float
+trailInset b i s = cond (hasFloat s b) (larger (lead s b) (insetOn s (i .containing))) (smaller (insetOn s (i .margin)) (insetOn s (i .containing)))
+
+abbrev pub borderInset : Direction → Segment → BfcInsets → FloatDirection → Float
+borderInset d b i s = cond (sameSide s (leadSide d)) (stretchInset b i s) (trailInset b i s)
+
+-- both boxes of a direction beside a band
+abbrev pub besideBoth : Direction → Segment → BfcInsets → BfcBoxes
+besideBoth d b i = record {
+  border = record { left = borderInset d b i FloatDirection.Left; right = borderInset d b i FloatDirection.Right };
+  stretch = record { left = stretchInset b i FloatDirection.Left; right = stretchInset b i FloatDirection.Right };
+}
+
+-- no band: border and stretch both use the margin insets
+abbrev pub besideNone : BfcInsets → BfcBoxes
+besideNone i = record { border = i .margin; stretch = i .margin }
+
+-- x is the left border inset
+abbrev pub bfcAt : Page → BandNumber → Float → BfcBoxes → BfcSlot
+bfcAt p n y o = record { band = n; x = o .border .left; y = y; «border_width» = less p (o .border); «stretch_width» = less p (o .stretch) }
+
+-- no band: y is min_y, or, after a search, the larger of that and the last end; with a band, y as for content
+unfoldable pub bfcSlot : Page → Direction → BfcInsets → Sought → BfcSlot
+bfcSlot p d i (Sought.Quiet y) = bfcAt p BandNumber.None y (besideNone i)
+bfcSlot p d i (Sought.Past y) = bfcAt p BandNumber.None (larger y (lastEnd y (p .bands))) (besideNone i)
+bfcSlot p d i (Sought.At k y) =
+    let b = getD (p .bands) k none in
+    bfcAt p (BandNumber.At k) (larger y (b .start)) (besideBoth d b i)
+
+abbrev pub bfcAsked : Page → BfcCall → BfcAnswer
+bfcAsked p c =
     elim (bfcCheck c) [
-      | Check.Passed ↦ BfcAnswer.Slot (bfcSlot p (directionOf (c .direction)) l r (add binary32 l (plusZero (c .leftMargin))) (add binary32 r (plusZero (c .rightMargin))) (seek p (clearOf (c .clear)) (c .after) (plusZero (c .minY))))
+      | Check.Passed ↦ BfcAnswer.Slot (bfcSlot p (directionOf (c .direction)) (bfcInsets c) (seek p (clearOf (c .clear)) (c .after) (c .minY)))
       | Check.Refused n ↦ BfcAnswer.Refused n
     ]
+
+-- `find_bfc_slot`
+unfoldable pub bfc : Page → BfcCall → BfcAnswer
+bfc p c = bfcAsked p (bfcCleaned c)

@@ -1,8 +1,11 @@
 // The float-placement module: one page of floated boxes, the calls that change it and the calls that ask it.
 // A call takes the page by value and hands it back, but `place_in` changes it where it lies; a refused call gives the page it was given.
+pub mod ask;
 mod band;
+mod bfc;
 mod calculator;
 mod clearing;
+mod content;
 pub mod fit;
 pub mod hold;
 mod inplace;

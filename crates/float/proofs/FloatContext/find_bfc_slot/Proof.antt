@@ -1,169 +1,151 @@
--- `float::FloatContext::find_bfc_slot` meets its contract: the check decides, then where the search lands.
+-- `float::FloatContext::find_bfc_slot` meets its contract: it is both phases, each look a loop whose invariant says that what is sought from its band on is what was sought.
 use borrow.Author.Needs.{needs}
-use Prim.Native.Nat.{_<_}
-use mathlib.Core.Path.{refl}
+use Prim.Native.Nat.{ℕ, _≤_, _-_}
+use mathlib.Core.Path.{_≡_, refl, ap, _∙_}
+use mathlib.Core.Logic.{⊎-elim}
 use native.Mathlib.Omega.{arith}
-use Rattle.float.specs.Page.{pageOf}
-use Rattle.float.proofs.Answers.{bfc-passed, bfc-refused, bfc-quiet, bfc-past, bfc-at, in-array, some-band}
+use lib.ListN.{length, getD}
+use Rattle.float.specs.Bands.{none}
+use Rattle.float.specs.Quest.{Found}
 use Rattle.float.proofs.Front.{bands-96}
-use Rattle.float.proofs.Slots.{at-in, past-in}
+use Rattle.float.proofs.Quests.{bfc-whole}
+use Rattle.float.proofs.Scan.{Scans, scan-starts, scan-goes, scan-finds, scan-ends}
 use Rattle.float.proofs.FloatContext.find_bfc_slot.Statement.{statement}
 use Rattle.float.proofs.FloatContext.find_bfc_slot.Tie as tie
 
-plus-zero-requires : tie.Need-plus-zero-requires
-plus-zero-requires c κs = search needs
+abbrev Inv-loop : tie.InvT-loop
+Inv-loop min-y left right left-margin right-margin direction clear self head q n i₀ i = Scans (self .bands) n (q .from) (q .above) i
 
-plus-zero-requires-2 : tie.Need-plus-zero-requires-2
-plus-zero-requires-2 c κs = search needs
+abbrev μ-loop : tie.MeasureT-loop
+μ-loop min-y left right left-margin right-margin direction clear self head q n i₀ i = n - i
 
-plus-zero-requires-3 : tie.Need-plus-zero-requires-3
-plus-zero-requires-3 c κs = search needs
+abbrev Inv-loop2 : tie.InvT-loop2
+Inv-loop2 min-y left right left-margin right-margin direction clear self head q n i k₀ k = Scans (self .bands) n 0 (q .y) k
 
-plus-zero-requires-4 : tie.Need-plus-zero-requires-4
-plus-zero-requires-4 c κs = search needs
+abbrev μ-loop2 : tie.MeasureT-loop2
+μ-loop2 min-y left right left-margin right-margin direction clear self head q n i k₀ k = n - k
 
-plus-zero-requires-5 : tie.Need-plus-zero-requires-5
-plus-zero-requires-5 c κs = search needs
+full : (c : tie.Start Inv-loop μ-loop Inv-loop2 μ-loop2) → length (c .args .t1 .bands) ≡ 96
+full c = bands-96 (c .args .t1) _ (c .good .0)
 
-check-bfc-requires : tie.Need-check-bfc-requires
-check-bfc-requires c κs = search needs
+room : (c : tie.After-bfc-quest Inv-loop μ-loop Inv-loop2 μ-loop2) → c .bfc-quest .result .n ≤ length (c .before .before .args .t1 .bands)
+room c = let l = full (c .before .before) in omega (arith, c .bfc-quest .ensures .0)
 
-enum-known-check : tie.Need-enum-known-check
-enum-known-check c = search needs
+head-requires : tie.Need-head-requires Inv-loop μ-loop Inv-loop2 μ-loop2
+head-requires c κs = search needs
 
-returns : tie.Need-returns
-returns c = let k = c .before .before .before in
-    bfc-refused _ _ (k .before .before .before .before .before .plus-zero .ensures) (k .before .before .before .before .plus-zero2 .ensures) (k .before .before .before .plus-zero3 .ensures) (k .before .before .plus-zero4 .ensures) (k .before .plus-zero5 .ensures) (k .check-bfc .ensures) (c .before .check .given .1)
+bfc-quest-requires : tie.Need-bfc-quest-requires Inv-loop μ-loop Inv-loop2 μ-loop2
+bfc-quest-requires c κs = search needs
 
-enum-told : tie.Need-enum-told
-enum-told c = search needs
+loop-holds : tie.Need-loop-holds Inv-loop μ-loop Inv-loop2 μ-loop2
+loop-holds c = scan-starts _ _ _ _ (c .bfc-quest .ensures .1)
 
-clear-of-requires : tie.Need-clear-of-requires
-clear-of-requires c κs = search needs
+mul-if1 : tie.Need-mul-if1 Inv-loop μ-loop Inv-loop2 μ-loop2
+mul-if1 c = let h = room (c .before .before) in omega arith
 
-seek-requires : tie.Need-seek-requires
-seek-requires c κs = search needs
+element-copy-out-if1 : tie.Need-element-copy-out-if1 Inv-loop μ-loop Inv-loop2 μ-loop2
+element-copy-out-if1 c = let h = room (c .before .before) in omega arith
 
-enum-known-sought : tie.Need-enum-known-sought
-enum-known-sought c = search needs
+add-i : tie.Need-add-i Inv-loop μ-loop Inv-loop2 μ-loop2
+add-i c = let h = room (c .before .before .before .before) in omega arith
 
-bfc-at-requires : tie.Need-bfc-at-requires
-bfc-at-requires c κs = search needs
+loop-less : tie.Need-loop-less Inv-loop μ-loop Inv-loop2 μ-loop2
+loop-less c = omega arith
 
-enum-known-sought-2 : tie.Need-enum-known-sought-2
-enum-known-sought-2 c = search needs
+loop-again : tie.Need-loop-again Inv-loop μ-loop Inv-loop2 μ-loop2
+loop-again c = let l = c .before .before .before in scan-goes (room (l .before)) (l .loop .inv) (c .before .before .loop-test .taken) (c .if1 .left)
 
-smaller-n-requires : tie.Need-smaller-n-requires
+loop2-holds : tie.Need-loop2-holds Inv-loop μ-loop Inv-loop2 μ-loop2
+loop2-holds c = scan-starts _ _ 0 _ (omega arith)
+
+mul-if3 : tie.Need-mul-if3 Inv-loop μ-loop Inv-loop2 μ-loop2
+mul-if3 c = let h = room (c .before .before .before .before .before) in omega arith
+
+element-copy-out-if3 : tie.Need-element-copy-out-if3 Inv-loop μ-loop Inv-loop2 μ-loop2
+element-copy-out-if3 c = let h = room (c .before .before .before .before .before) in omega arith
+
+add-k : tie.Need-add-k Inv-loop μ-loop Inv-loop2 μ-loop2
+add-k c = let h = room (c .before .before .before .before .before .before .before) in omega arith
+
+loop2-less : tie.Need-loop2-less Inv-loop μ-loop Inv-loop2 μ-loop2
+loop2-less c = omega arith
+
+loop2-again : tie.Need-loop2-again Inv-loop μ-loop Inv-loop2 μ-loop2
+loop2-again c = let l = c .before .before .before in scan-goes (room (l .before .before .before .before)) (l .loop2 .inv) (c .before .before .loop2-test .taken) (c .if3 .left)
+
+smaller-n-requires : tie.Need-smaller-n-requires Inv-loop μ-loop Inv-loop2 μ-loop2
 smaller-n-requires c κs = search needs
 
-some : (c : tie.After-smaller-n) → 0 < c .smaller-n .result
-unfolding pageOf
-some c =
-    let s = c .before .before .before .before in
-    let o = s .before .before .before .before .before .before .before .before .before .before .before in
-    let e = s .seek .ensures (pageOf (o .args .self)) refl refl refl refl refl in
-    some-band (o .args .self) (bands-96 (o .args .self) _ (o .good .0)) (c .smaller-n .ensures) (past-in _ _ _ _ e (c .before .before .sought2 .given .1))
+mul-b : tie.Need-mul-b Inv-loop μ-loop Inv-loop2 μ-loop2
+mul-b c = omega (arith, c .smaller-n .ensures)
 
-sub-last : tie.Need-sub-last
-sub-last c = let h = some c in
-    omega arith
+element-copy-out-b : tie.Need-element-copy-out-b Inv-loop μ-loop Inv-loop2 μ-loop2
+element-copy-out-b c = omega (arith, c .smaller-n .ensures)
 
-mul-last : tie.Need-mul-last
-mul-last c = search needs
+smaller-n-requires-2 : tie.Need-smaller-n-requires-2 Inv-loop μ-loop Inv-loop2 μ-loop2
+smaller-n-requires-2 c κs = search needs
 
-array-copy-out-last : tie.Need-array-copy-out-last
-array-copy-out-last c = search needs
+sub-top : tie.Need-sub-top Inv-loop μ-loop Inv-loop2 μ-loop2
+sub-top c = omega (arith, c .smaller-n2 .ensures)
 
-larger-requires : tie.Need-larger-requires
-larger-requires c κs = search needs
+mul-last : tie.Need-mul-last Inv-loop μ-loop Inv-loop2 μ-loop2
+mul-last c = omega (arith, c .before .before .before .before .before .before .bfc-quest .ensures .0)
 
-bfc-at-requires-2 : tie.Need-bfc-at-requires-2
-bfc-at-requires-2 c κs = search needs
+element-copy-out-last : tie.Need-element-copy-out-last Inv-loop μ-loop Inv-loop2 μ-loop2
+element-copy-out-last c = omega (arith, c .before .before .before .before .before .before .bfc-quest .ensures .0, c .smaller-n2 .ensures)
 
-enum-known-sought-3 : tie.Need-enum-known-sought-3
-enum-known-sought-3 c = search needs
+bfc-found-requires : tie.Need-bfc-found-requires Inv-loop μ-loop Inv-loop2 μ-loop2
+bfc-found-requires c κs = search needs
 
-found : (c : tie.After-known-told4) → c .before .sought3 .given .0 .0 < 96
-unfolding pageOf
-found c =
-    let s = c .before .before .before in
-    let o = s .before .before .before .before .before .before .before .before .before .before .before in
-    let e = s .seek .ensures (pageOf (o .args .self)) refl refl refl refl refl in
-    in-array (o .args .self) (bands-96 (o .args .self) _ (o .good .0)) (at-in _ _ _ _ e (c .before .sought3 .given .1))
+-- the two looks, each by where its loop stops
+looked : (c : tie.Joined2 Inv-loop μ-loop Inv-loop2 μ-loop2) → Found (c .before .before .before .before .before .args .t1 .bands) (c .before .before .before .bfc-quest .result) (c .before .before .loop .i) (c .if2 .k)
+looked c =
+    let l = c .before .before in
+    let r = room (l .before) in
+    record {
+      at = ⊎-elim (λ w. scan-ends r (l .loop .inv) (w .left)) (λ w. scan-finds r (l .loop .inv) (w .0 .taken) (w .2 .taken)) (c .before .loop-test .came);
+      lower = λ e. ⊎-elim (λ w. w .3 ∙ scan-ends r (w .1 .inv) (w .2 .left)) (⊎-elim (λ w. w .5 ∙ scan-finds r (w .1 .inv) (w .2 .taken) (w .4 .taken)) (λ w. absurd (w .0 .left e))) (c .if2 .came);
+    }
 
-mul-b : tie.Need-mul-b
-mul-b c = let h = found c in
-    omega arith
-
-array-copy-out-b : tie.Need-array-copy-out-b
-array-copy-out-b c = let h = found c in
-    omega arith
-
-direction-of-requires : tie.Need-direction-of-requires
-direction-of-requires c κs = search needs
-
-bfc-beside-requires : tie.Need-bfc-beside-requires
-bfc-beside-requires c κs = search needs
-
-returns-2 : tie.Need-returns-2
-unfolding pageOf
-returns-2 c = let s = c .before .before .before .before in
-    let k = s .before .before .before .before .before in
-    let o = k .before .before .before .before .before .before in
-    let f = o .args .self in
-    let e = s .seek .ensures (pageOf f) refl refl refl refl refl in
-    bfc-passed _ _ (k .before .before .before .before .before .plus-zero .ensures) (k .before .before .before .before .plus-zero2 .ensures) (k .before .before .before .plus-zero3 .ensures) (k .before .before .plus-zero4 .ensures) (k .before .plus-zero5 .ensures) (k .check-bfc .ensures) (s .before .before .before .enum-told .given .1) (s .before .clear-of .ensures) e
-    (bfc-quiet f _ _ _ _ _ (c .before .before .sought .given .1) (c .bfc-at .ensures))
-
-returns-3 : tie.Need-returns-3
-unfolding pageOf
-returns-3 c = let s = c .before .before .before .before .before .before .before in
-    let k = s .before .before .before .before .before in
-    let o = k .before .before .before .before .before .before in
-    let f = o .args .self in
-    let e = s .seek .ensures (pageOf f) refl refl refl refl refl in
-    bfc-passed _ _ (k .before .before .before .before .before .plus-zero .ensures) (k .before .before .before .before .plus-zero2 .ensures) (k .before .before .before .plus-zero3 .ensures) (k .before .before .plus-zero4 .ensures) (k .before .plus-zero5 .ensures) (k .check-bfc .ensures) (s .before .before .before .enum-told .given .1) (s .before .clear-of .ensures) e
-    (bfc-past f _ _ _ _ _ (bands-96 f _ (o .good .0)) (c .before .before .before .smaller-n .ensures) (c .before .before .before .before .before .sought2 .given .1) (past-in _ _ _ _ e (c .before .before .before .before .before .sought2 .given .1)) (c .before .larger .ensures) (c .bfc-at2 .ensures))
-
-returns-4 : tie.Need-returns-4
-unfolding pageOf
-returns-4 c = let s = c .before .before .before .before .before .before in
-    let k = s .before .before .before .before .before in
-    let o = k .before .before .before .before .before .before in
-    let f = o .args .self in
-    let e = s .seek .ensures (pageOf f) refl refl refl refl refl in
-    bfc-passed _ _ (k .before .before .before .before .before .plus-zero .ensures) (k .before .before .before .before .plus-zero2 .ensures) (k .before .before .before .plus-zero3 .ensures) (k .before .before .plus-zero4 .ensures) (k .before .plus-zero5 .ensures) (k .check-bfc .ensures) (s .before .before .before .enum-told .given .1) (s .before .clear-of .ensures) e
-    (bfc-at f _ _ _ _ _ (c .before .direction-of .ensures) (c .before .before .before .before .sought3 .given .1) (at-in _ _ _ _ e (c .before .before .before .before .sought3 .given .1)) refl (c .bfc-beside .ensures))
+returns : tie.Need-returns Inv-loop μ-loop Inv-loop2 μ-loop2
+returns c =
+    let t = c .before .before in
+    let j = t .before .before .before in
+    let a = j .before .before .before in
+    let p = a .before .before .args .t1 in
+    bfc-whole p (a .before .head .ensures) _
+    (c .bfc-found .ensures _ (p .bands) (p .boxes) (full (a .before .before)) (a .bfc-quest .ensures .2) refl refl refl refl refl (looked j)
+    (ap (λ (m : ℕ). getD (p .bands) m none) (t .before .before .smaller-n .ensures))
+    (ap (λ (m : ℕ). getD (p .bands) (a .bfc-quest .result .n - m) none) (t .smaller-n2 .ensures)))
 
 pub find-bfc-slot-spec : {M : Type 1} → statement M
 find-bfc-slot-spec =
     tie.close
     (tie.spec
-    plus-zero-requires
-    plus-zero-requires-2
-    plus-zero-requires-3
-    plus-zero-requires-4
-    plus-zero-requires-5
-    check-bfc-requires
-    enum-known-check
-    returns
-    enum-told
-    clear-of-requires
-    seek-requires
-    enum-known-sought
-    bfc-at-requires
-    enum-known-sought-2
+    Inv-loop
+    μ-loop
+    Inv-loop2
+    μ-loop2
+    head-requires
+    bfc-quest-requires
+    loop-holds
+    mul-if1
+    element-copy-out-if1
+    add-i
+    loop-less
+    loop-again
+    loop2-holds
+    mul-if3
+    element-copy-out-if3
+    add-k
+    loop2-less
+    loop2-again
     smaller-n-requires
-    sub-last
-    mul-last
-    array-copy-out-last
-    larger-requires
-    bfc-at-requires-2
-    enum-known-sought-3
     mul-b
-    array-copy-out-b
-    direction-of-requires
-    bfc-beside-requires
-    returns-2
-    returns-3
-    returns-4)
+    element-copy-out-b
+    smaller-n-requires-2
+    sub-top
+    mul-last
+    element-copy-out-last
+    bfc-found-requires
+    returns)

@@ -1,125 +1,130 @@
--- `float::FloatContext::find_content_slot` meets its contract: the check decides, then where the search lands.
+-- `float::FloatContext::find_content_slot` meets its contract: it is both phases, each look a loop whose invariant says that what is sought from its band on is what was sought.
 use borrow.Author.Needs.{needs}
-use mathlib.Core.Path.{refl}
-use Prim.Native.Nat.{_<_}
+use Prim.Native.Nat.{ℕ, _≤_, _-_}
+use mathlib.Core.Path.{_≡_, refl, ap, _∙_}
+use mathlib.Core.Logic.{⊎-elim}
 use native.Mathlib.Omega.{arith}
-use Rattle.float.specs.Page.{pageOf}
-use Rattle.float.proofs.Answers.{content-passed, content-refused, content-quiet, content-past, content-at, in-array}
+use lib.ListN.{length, getD}
+use Rattle.float.specs.Bands.{none}
+use Rattle.float.specs.Quest.{Found}
 use Rattle.float.proofs.Front.{bands-96}
-use Rattle.float.proofs.Slots.{at-in}
+use Rattle.float.proofs.Quests.{content-whole}
+use Rattle.float.proofs.Scan.{Scans, scan-starts, scan-goes, scan-finds, scan-ends}
 use Rattle.float.proofs.FloatContext.find_content_slot.Statement.{statement}
 use Rattle.float.proofs.FloatContext.find_content_slot.Tie as tie
 
-plus-zero-requires : tie.Need-plus-zero-requires
-plus-zero-requires c κs = search needs
+abbrev Inv-loop : tie.InvT-loop
+Inv-loop min-y left right clear self head q n i₀ i = Scans (self .bands) n (q .from) (q .above) i
 
-plus-zero-requires-2 : tie.Need-plus-zero-requires-2
-plus-zero-requires-2 c κs = search needs
+abbrev μ-loop : tie.MeasureT-loop
+μ-loop min-y left right clear self head q n i₀ i = n - i
 
-plus-zero-requires-3 : tie.Need-plus-zero-requires-3
-plus-zero-requires-3 c κs = search needs
+abbrev Inv-loop2 : tie.InvT-loop2
+Inv-loop2 min-y left right clear self head q n i k₀ k = Scans (self .bands) n 0 (q .y) k
 
-check-content-requires : tie.Need-check-content-requires
-check-content-requires c κs = search needs
+abbrev μ-loop2 : tie.MeasureT-loop2
+μ-loop2 min-y left right clear self head q n i k₀ k = n - k
 
-enum-known-check : tie.Need-enum-known-check
-enum-known-check c = search needs
+full : (c : tie.Start Inv-loop μ-loop Inv-loop2 μ-loop2) → length (c .args .t1 .bands) ≡ 96
+full c = bands-96 (c .args .t1) _ (c .good .0)
 
-returns : tie.Need-returns
-returns c = let k = c .before .before .before in
-    content-refused _ _ (k .before .before .before .plus-zero .ensures) (k .before .before .plus-zero2 .ensures) (k .before .plus-zero3 .ensures) (k .check-content .ensures) (c .before .check .given .1)
+room : (c : tie.After-content-quest Inv-loop μ-loop Inv-loop2 μ-loop2) → c .content-quest .result .n ≤ length (c .before .before .args .t1 .bands)
+room c = let l = full (c .before .before) in omega (arith, c .content-quest .ensures .0)
 
-enum-told : tie.Need-enum-told
-enum-told c = search needs
+head-requires : tie.Need-head-requires Inv-loop μ-loop Inv-loop2 μ-loop2
+head-requires c κs = search needs
 
-clear-of-requires : tie.Need-clear-of-requires
-clear-of-requires c κs = search needs
+content-quest-requires : tie.Need-content-quest-requires Inv-loop μ-loop Inv-loop2 μ-loop2
+content-quest-requires c κs = search needs
 
-seek-requires : tie.Need-seek-requires
-seek-requires c κs = search needs
+loop-holds : tie.Need-loop-holds Inv-loop μ-loop Inv-loop2 μ-loop2
+loop-holds c = scan-starts _ _ _ _ (c .content-quest .ensures .1)
 
-enum-known-sought : tie.Need-enum-known-sought
-enum-known-sought c = search needs
+mul-if1 : tie.Need-mul-if1 Inv-loop μ-loop Inv-loop2 μ-loop2
+mul-if1 c = let h = room (c .before .before) in omega arith
 
-content-at-requires : tie.Need-content-at-requires
-content-at-requires c κs = search needs
+element-copy-out-if1 : tie.Need-element-copy-out-if1 Inv-loop μ-loop Inv-loop2 μ-loop2
+element-copy-out-if1 c = let h = room (c .before .before) in omega arith
 
-enum-known-sought-2 : tie.Need-enum-known-sought-2
-enum-known-sought-2 c = search needs
+add-i : tie.Need-add-i Inv-loop μ-loop Inv-loop2 μ-loop2
+add-i c = let h = room (c .before .before .before .before) in omega arith
 
-content-at-requires-2 : tie.Need-content-at-requires-2
-content-at-requires-2 c κs = search needs
+loop-less : tie.Need-loop-less Inv-loop μ-loop Inv-loop2 μ-loop2
+loop-less c = omega arith
 
-enum-known-sought-3 : tie.Need-enum-known-sought-3
-enum-known-sought-3 c = search needs
+loop-again : tie.Need-loop-again Inv-loop μ-loop Inv-loop2 μ-loop2
+loop-again c = let l = c .before .before .before in scan-goes (room (l .before)) (l .loop .inv) (c .before .before .loop-test .taken) (c .if1 .left)
 
-found : (c : tie.After-known-told4) → c .before .sought3 .given .0 .0 < 96
-unfolding pageOf
-found c =
-    let s = c .before .before .before in
-    let o = s .before .before .before .before .before .before .before .before .before in
-    let e = s .seek .ensures (pageOf (o .args .self)) refl refl refl refl refl in
-    in-array (o .args .self) (bands-96 (o .args .self) _ (o .good .0)) (at-in _ _ _ _ e (c .before .sought3 .given .1))
+loop2-holds : tie.Need-loop2-holds Inv-loop μ-loop Inv-loop2 μ-loop2
+loop2-holds c = scan-starts _ _ 0 _ (omega arith)
 
-mul-b : tie.Need-mul-b
-mul-b c = let h = found c in
-    omega arith
+mul-if3 : tie.Need-mul-if3 Inv-loop μ-loop Inv-loop2 μ-loop2
+mul-if3 c = let h = room (c .before .before .before .before .before) in omega arith
 
-array-copy-out-b : tie.Need-array-copy-out-b
-array-copy-out-b c = let h = found c in
-    omega arith
+element-copy-out-if3 : tie.Need-element-copy-out-if3 Inv-loop μ-loop Inv-loop2 μ-loop2
+element-copy-out-if3 c = let h = room (c .before .before .before .before .before) in omega arith
 
-content-beside-requires : tie.Need-content-beside-requires
-content-beside-requires c κs = search needs
+add-k : tie.Need-add-k Inv-loop μ-loop Inv-loop2 μ-loop2
+add-k c = let h = room (c .before .before .before .before .before .before .before) in omega arith
 
-returns-2 : tie.Need-returns-2
-unfolding pageOf
-returns-2 c = let s = c .before .before .before .before in
-    let k = s .before .before .before .before .before in
-    let f = k .before .before .before .before .args .self in
-    let e = s .seek .ensures (pageOf f) refl refl refl refl refl in
-    content-passed _ _ (k .before .before .before .plus-zero .ensures) (k .before .before .plus-zero2 .ensures) (k .before .plus-zero3 .ensures) (k .check-content .ensures) (s .before .before .before .enum-told .given .1) (s .before .clear-of .ensures) e
-    (content-quiet f _ _ (c .before .before .sought .given .1) (c .content-at .ensures))
+loop2-less : tie.Need-loop2-less Inv-loop μ-loop Inv-loop2 μ-loop2
+loop2-less c = omega arith
 
-returns-3 : tie.Need-returns-3
-unfolding pageOf
-returns-3 c = let s = c .before .before .before .before in
-    let k = s .before .before .before .before .before in
-    let f = k .before .before .before .before .args .self in
-    let e = s .seek .ensures (pageOf f) refl refl refl refl refl in
-    content-passed _ _ (k .before .before .before .plus-zero .ensures) (k .before .before .plus-zero2 .ensures) (k .before .plus-zero3 .ensures) (k .check-content .ensures) (s .before .before .before .enum-told .given .1) (s .before .clear-of .ensures) e
-    (content-past f _ _ (c .before .before .sought2 .given .1) (c .content-at2 .ensures))
+loop2-again : tie.Need-loop2-again Inv-loop μ-loop Inv-loop2 μ-loop2
+loop2-again c = let l = c .before .before .before in scan-goes (room (l .before .before .before .before)) (l .loop2 .inv) (c .before .before .loop2-test .taken) (c .if3 .left)
 
-returns-4 : tie.Need-returns-4
-unfolding pageOf
-returns-4 c = let s = c .before .before .before .before .before in
-    let k = s .before .before .before .before .before in
-    let f = k .before .before .before .before .args .self in
-    let e = s .seek .ensures (pageOf f) refl refl refl refl refl in
-    content-passed _ _ (k .before .before .before .plus-zero .ensures) (k .before .before .plus-zero2 .ensures) (k .before .plus-zero3 .ensures) (k .check-content .ensures) (s .before .before .before .enum-told .given .1) (s .before .clear-of .ensures) e
-    (content-at f _ _ (c .before .before .before .sought3 .given .1) (at-in _ _ _ _ e (c .before .before .before .sought3 .given .1)) refl (c .content-beside .ensures))
+smaller-n-requires : tie.Need-smaller-n-requires Inv-loop μ-loop Inv-loop2 μ-loop2
+smaller-n-requires c κs = search needs
+
+mul-b : tie.Need-mul-b Inv-loop μ-loop Inv-loop2 μ-loop2
+mul-b c = omega (arith, c .smaller-n .ensures)
+
+element-copy-out-b : tie.Need-element-copy-out-b Inv-loop μ-loop Inv-loop2 μ-loop2
+element-copy-out-b c = omega (arith, c .smaller-n .ensures)
+
+content-found-requires : tie.Need-content-found-requires Inv-loop μ-loop Inv-loop2 μ-loop2
+content-found-requires c κs = search needs
+
+-- the two looks, each by where its loop stops
+looked : (c : tie.Joined2 Inv-loop μ-loop Inv-loop2 μ-loop2) → Found (c .before .before .before .before .before .args .t1 .bands) (c .before .before .before .content-quest .result) (c .before .before .loop .i) (c .if2 .k)
+looked c =
+    let l = c .before .before in
+    let r = room (l .before) in
+    record {
+      at = ⊎-elim (λ w. scan-ends r (l .loop .inv) (w .left)) (λ w. scan-finds r (l .loop .inv) (w .0 .taken) (w .2 .taken)) (c .before .loop-test .came);
+      lower = λ e. ⊎-elim (λ w. w .3 ∙ scan-ends r (w .1 .inv) (w .2 .left)) (⊎-elim (λ w. w .5 ∙ scan-finds r (w .1 .inv) (w .2 .taken) (w .4 .taken)) (λ w. absurd (w .0 .left e))) (c .if2 .came);
+    }
+
+returns : tie.Need-returns Inv-loop μ-loop Inv-loop2 μ-loop2
+returns c = let j = c .before .before .before in
+    let a = j .before .before .before in
+    let p = a .before .before .args .t1 in
+    content-whole p (a .before .head .ensures) _ (c .content-found .ensures _ (p .bands) (p .boxes) (full (a .before .before)) (a .content-quest .ensures .2) refl refl (looked j) (ap (λ (m : ℕ). getD (p .bands) m none) (c .before .before .smaller-n .ensures)))
 
 pub find-content-slot-spec : {M : Type 1} → statement M
 find-content-slot-spec =
     tie.close
     (tie.spec
-    plus-zero-requires
-    plus-zero-requires-2
-    plus-zero-requires-3
-    check-content-requires
-    enum-known-check
-    returns
-    enum-told
-    clear-of-requires
-    seek-requires
-    enum-known-sought
-    content-at-requires
-    enum-known-sought-2
-    content-at-requires-2
-    enum-known-sought-3
+    Inv-loop
+    μ-loop
+    Inv-loop2
+    μ-loop2
+    head-requires
+    content-quest-requires
+    loop-holds
+    mul-if1
+    element-copy-out-if1
+    add-i
+    loop-less
+    loop-again
+    loop2-holds
+    mul-if3
+    element-copy-out-if3
+    add-k
+    loop2-less
+    loop2-again
+    smaller-n-requires
     mul-b
-    array-copy-out-b
-    content-beside-requires
-    returns-2
-    returns-3
-    returns-4)
+    element-copy-out-b
+    content-found-requires
+    returns)

@@ -1,7 +1,7 @@
--- `float::slot::trail_inset` meets its contract: the mark decides.
+-- `float::bfc::trail_inset` meets its contract: the mark decides.
 use borrow.Author.Needs.{needs}
-use Rattle.float.proofs.slot.trail_inset.Statement.{statement}
-use Rattle.float.proofs.slot.trail_inset.Tie as tie
+use Rattle.float.proofs.bfc.trail_inset.Statement.{statement}
+use Rattle.float.proofs.bfc.trail_inset.Tie as tie
 
 larger-requires : tie.Need-larger-requires
 larger-requires c κs = search needs
