@@ -1,6 +1,6 @@
 -- From what the leaves of a placement answer to its definitions: what is asked, rule 2; and the width.
 use Prim.Native.Nat.{ℕ, suc, _+_, _≤_, _<_, min, max}
-use mathlib.Core.Path.{_≡_, sym}
+use mathlib.Core.Path.{_≡_, sym, subst}
 use mathlib.Core.Bool.{true}
 use mathlib.Core.List.{[], _∷_}
 use native.Mathlib.Omega.{arith}
@@ -10,6 +10,7 @@ use lib.ListN.{length, take, length-take}
 use Rattle.float.specs.declared.Clear.{Clear}
 use Rattle.float.specs.declared.Done.{Done}
 use Rattle.float.specs.declared.FloatContext.{FloatContext}
+use Rattle.float.specs.declared.Head.{Head}
 use Rattle.float.specs.declared.FloatDirection.{FloatDirection}
 use Rattle.float.specs.declared.Refusal.{Refusal}
 use Rattle.float.specs.declared.Widened.{Widened}
@@ -19,6 +20,7 @@ use Rattle.float.specs.Numbers.{size, plusZero}
 use Rattle.float.specs.Bands.{onSide}
 use Rattle.float.specs.Clear.{clearedPast}
 use Rattle.float.specs.Page.{Page, pageOf, front, stored}
+use Rattle.float.specs.Head.{headOf, pageWith}
 use Rattle.float.specs.Place.{Call, askOf, firstAllowed, widthCheck, setWidth, widthOf}
 use Rattle.float.specs.Refuse.{sideOf, checkOf}
 use Rattle.float.proofs.Front.{front-nil, front-live}
@@ -68,3 +70,7 @@ module _ (p : FloatContext) (w v : Float) (k : Check) (f : v ≡ plusZero w) (g 
       let t : front (take (p .count) (p .bands)) (p .bands) ≡ p .bands = front-live (p .count) (p .bands) in
       let u : front [] (p .boxes) ≡ p .boxes = front-nil (p .boxes) in
       simp (sym f, z, widthCheck, sym g, e, setWidth, c, t, u)
+
+-- the page by value is the page of its three parts
+pub width-held : (p : FloatContext) (w : Float) {h : Head} {x : Widened} → h ≡ headOf p → widthOf (pageWith h (p .bands) (p .boxes)) w ≡ x → x ≡ widthOf p w
+width-held p w {h} {x} e g = sym (subst (λ (z : Head). widthOf (pageWith z (p .bands) (p .boxes)) w ≡ x) e g)

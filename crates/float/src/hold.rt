@@ -8,11 +8,13 @@ ghost use lib.ListN.{length, take, getD};
 ghost use Rattle.float.specs.declared.PlacedFloatedBox.{PlacedFloatedBox as BoxOf};
 ghost use Rattle.float.specs.declared.Segment.{Segment as SegmentOf};
 ghost use Rattle.float.specs.Bands.{none, firstBelow};
+ghost use Rattle.float.specs.Head.{pageWith};
 ghost use Rattle.float.specs.Hold.{roomCheck, headAfter, refusedEntry, enteredOf, Admits, WalkedBack, Enters};
-ghost use Rattle.float.specs.Place.{Call};
+ghost use Rattle.float.specs.Place.{Call, widthOf};
 ghost use Rattle.float.specs.Plan.{source as sourceOf, shaped as shapedOf};
 ghost use Rattle.float.specs.Search.{searchFrom};
 use crate::Bottom;
+use crate::Done;
 use crate::FloatDirection;
 use crate::Head;
 use crate::PlaceAnswer;
@@ -47,6 +49,39 @@ pub struct Entry {
     pub head: Head,
     pub plan: Plan,
     pub floated: PlacedFloatedBox,
+}
+
+// The answer of setting the width, and the head after it.
+pub struct Widening {
+    pub answer: Done,
+    pub head: Head,
+}
+
+// Sets the width of a page without boxes: refusals 2, 3 and 4.
+pub fn widen(head: Head, width: f32) -> Widening
+    ensures { λ r. ⌜ ((bs : List SegmentOf) (xs : List BoxOf) → length bs ≡ 96 → length xs ≡ 64 → widthOf (pageWith head bs xs) width ≡ record { answer = r .answer; page = pageWith (r .head) bs xs }) ⌝ }
+{
+    let w = number::plus_zero(width);
+    let check = refuse::check_size(w);
+    if let Check::Refused(n) = check {
+        return Widening {
+            answer: Done::Refused(n),
+            head: head,
+        };
+    }
+    if 0 < head.box_count {
+        return Widening {
+            answer: Done::Refused(Refusal::WidthFixed),
+            head: head,
+        };
+    }
+    let mut after = head;
+    after.width = w;
+    after.count = number::smaller_n(head.count, 96);
+    Widening {
+        answer: Done::Accepted,
+        head: after,
+    }
 }
 
 // Refusal 5, after those of the input.

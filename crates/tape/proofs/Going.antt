@@ -9,11 +9,18 @@ use native.Mathlib.Omega.{arith}
 use borrow.Author.Tests.{le-leb}
 use lib.ListN.{length, take, drop, getD, length-append, length-drop, drop-of-length-le}
 use lib.Seq.{paste, drop-cons, drop-drop, drop-append-add, take-all, take-append-seam, length-take-le}
+use Rattle.float.specs.declared.Head.{Head}
+use Rattle.float.specs.declared.PlacedFloatedBox.{PlacedFloatedBox}
+use Rattle.float.specs.declared.Segment.{Segment}
+use Rattle.float.specs.Head.{pageWith}
 use Rattle.float.specs.Page.{front}
+use Rattle.tape.specs.declared.step.Calculator.{Calculator}
 use Rattle.tape.specs.declared.step.State.{State}
-use Rattle.tape.specs.Put.{Turned, Answered, Roomy}
+use Rattle.tape.specs.Put.{Turned, Answered, Roomy, freshHead, stateOf}
 use Rattle.tape.specs.Tape.{freshState, run, linesOf}
+use Rattle.tape.proofs.Held.{fresh-same}
 use Rattle.tape.proofs.Running.{run-none}
+use Rattle.tape.proofs.Same.{run-same}
 
 -- at the offset i of the tape t, in the state s: the lines so far have n bytes, and where w says so they stand at the front of a₀, which is then a
 pub record Going (t : List ℕ) (w : Bool) (a₀ a : List ℕ) (s : State) (i n : ℕ) : Type 0 where
@@ -32,14 +39,15 @@ unfolding front
 front-none true a = refl
 front-none false a = refl
 
-pub going-none : (t : List ℕ) (w : Bool) (a : List ℕ) → length t ≤ 65536 → Going t w a a freshState 0 0
+-- at the start: a fresh head is a fresh page, whatever stands in the arrays
+pub going-fresh : (t : List ℕ) (w : Bool) (a : List ℕ) (h : Head) (bs : List Segment) (xs : List PlacedFloatedBox) → h ≡ freshHead → length t ≤ 65536 → Going t w a a (stateOf (pageWith h bs xs) Calculator.None) 0 0
 unfolding linesOf
-going-none t w a h = record {
+going-fresh t w a h bs xs e k = record {
   done = [];
   fuel = length t;
   enough = omega arith;
   inside = omega arith;
-  whole = rw (le-leb (length t) 65536 h, linesOf);
+  whole = rw (le-leb (length t) 65536 k, linesOf) (run-same (length t) 0 t (fresh-same h bs xs e));
   count = refl;
   few = omega arith;
   text = front-none w a;

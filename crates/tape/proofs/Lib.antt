@@ -2,6 +2,9 @@ pub mod Bits
 pub mod Reading
 pub mod Digits
 pub mod Putting
+pub mod Same
+pub mod Held
+pub mod Looking
 pub mod Stepping
 pub mod Running
 pub mod Going

@@ -5,9 +5,24 @@ use mathlib.Core.Path.{_≡_}
 use mathlib.Core.Bool.{Bool, true, false, cond}
 use mathlib.Core.List.{List, _∷_, _++_}
 use lib.ListN.{length, take, drop}
+use Rattle.f32_laws.specs.Numbers.{zero+}
+use Rattle.float.specs.declared.Bottom.{Bottom}
 use Rattle.float.specs.declared.FloatContext.{FloatContext}
-use Rattle.float.specs.Page.{front}
+use Rattle.float.specs.declared.Head.{Head}
+use Rattle.float.specs.declared.PlaceAnswer.{PlaceAnswer}
+use Rattle.float.specs.declared.PlacedFloatedBox.{PlacedFloatedBox}
+use Rattle.float.specs.declared.Refusal.{Refusal}
+use Rattle.float.specs.declared.Segment.{Segment}
+use Rattle.float.specs.declared.refuse.Check.{Check}
+use Rattle.float.specs.Head.{pageWith}
+use Rattle.float.specs.Page.{front, pageOf}
+use Rattle.float.specs.Place.{Call, placeOf}
+use Rattle.float.specs.declared.hold.Admission.{Admission}
+use Rattle.float.specs.declared.ask.Quest.{Quest}
+use Rattle.tape.specs.declared.record.Read.{Read}
 use Rattle.tape.specs.declared.record.Record.{Record}
+use Rattle.float.specs.Hold.{Admits}
+use Rattle.float.specs.Quest.{contentQuest, bfcQuest}
 use Rattle.tape.specs.declared.step.Calculator.{Calculator}
 use Rattle.tape.specs.declared.step.State.{State}
 use Rattle.tape.specs.Tape.{Told, run, linesOf}
@@ -25,16 +40,77 @@ pub record Tells {A : Type 0} (t : Told A) (a : A) (l m : List ℕ) (r : ℕ) : 
 abbrev pub stateOf : FloatContext → Calculator → State
 stateOf p c = record { page = p; calculator = c }
 
--- the records that leave the page as it is
-unfoldable pub keeps : Record → Bool
-keeps Record.Fresh = false
-keeps (Record.Width w) = false
-keeps (Record.Place side clear w h y l r) = false
-keeps (Record.Content y l r clear after) = true
-keeps (Record.Bfc y l r ml mr d clear after) = true
-keeps (Record.Start mode w) = true
-keeps (Record.Add w side clear) = true
-keeps Record.Result = true
+-- two states that hold the same page: dead places of the arrays may differ
+pub record SameState (s t : State) : Type 0 where
+  pub page : pageOf (s .page) ≡ pageOf (t .page)
+  pub calculator : s .calculator ≡ t .calculator
+
+-- the same of a state, up to dead places
+pub record Leaves (t : Told State) (s : State) (l m : List ℕ) (r : ℕ) : Type 0 where
+  pub after : SameState s (t .after)
+  pub line : Put l 0 (t .line) m r
+
+-- the head of a fresh page
+abbrev pub freshHead : Head
+freshHead = record { width = zero+; count = 0; «box_count» = 0; «left_bottom» = Bottom.None; «right_bottom» = Bottom.None; ceiling = Bottom.None; «left_first» = 0; «left_past» = 0; «right_first» = 0; «right_past» = 0 }
+
+-- the record of a placement
+abbrev pub placeRecord : Call → Record
+placeRecord c = Record.Place (c .side) (c .clear) (c .width) (c .height) (c .minY) (c .left) (c .right)
+
+-- what was read is a placement that refusals 1, 2, 3 and 5 let pass
+pub record Places (h : Head) (r : Read) (a : Admission) : Type 0 where
+  pub call : Call
+  pub read : r ≡ Read.Whole (placeRecord call)
+  pub admits : Admits h call a
+  pub passed : a .check ≡ Check.Passed
+
+-- what was read is no placement, or one that they refuse with n
+pub record Unplaced (h : Head) (r : Read) (n : Refusal) : Type 0 where
+  pub refused : (c : Call) → r ≡ Read.Whole (placeRecord c) → (bs : List Segment) (xs : List PlacedFloatedBox) → length bs ≡ 96 → length xs ≡ 64 → placeOf (pageWith h bs xs) c ≡ record { answer = PlaceAnswer.Refused n; page = pageWith h bs xs }
+
+-- the calls of the calculator
+abbrev pub reckons : Record → Bool
+reckons Record.Fresh = false
+reckons (Record.Width w) = false
+reckons (Record.Place side clear w h y l r) = false
+reckons (Record.Content y l r clear after) = false
+reckons (Record.Bfc y l r ml mr d clear after) = false
+reckons (Record.Start mode) = true
+reckons (Record.Add w side clear) = true
+reckons Record.Result = true
+
+-- whether what was read is a question, and what it looks for
+abbrev pub questRecord : Record → Bool
+questRecord Record.Fresh = false
+questRecord (Record.Width w) = false
+questRecord (Record.Place side clear w h y l r) = false
+questRecord (Record.Content y l r clear after) = true
+questRecord (Record.Bfc y l r ml mr d clear after) = true
+questRecord (Record.Start mode) = false
+questRecord (Record.Add w side clear) = false
+questRecord Record.Result = false
+
+abbrev pub asksOf : Read → Bool
+asksOf (Read.Whole r) = questRecord r
+asksOf Read.Broken = false
+
+abbrev pub noQuest : Quest
+noQuest = record { check = Check.Passed; n = 0; from = 0; above = zero+; y = zero+ }
+
+abbrev pub questIn : Head → Record → Quest
+questIn p Record.Fresh = noQuest
+questIn p (Record.Width w) = noQuest
+questIn p (Record.Place side clear w h y l r) = noQuest
+questIn p (Record.Content y l r clear after) = contentQuest p (record { minY = y; left = l; right = r; clear = clear; after = after })
+questIn p (Record.Bfc y l r ml mr d clear after) = bfcQuest p (record { minY = y; left = l; right = r; leftMargin = ml; rightMargin = mr; direction = d; clear = clear; after = after })
+questIn p (Record.Start mode) = noQuest
+questIn p (Record.Add w side clear) = noQuest
+questIn p Record.Result = noQuest
+
+abbrev pub questOf : Head → Read → Quest
+questOf p (Read.Whole r) = questIn p r
+questOf p Read.Broken = noQuest
 
 -- the record of the kind k and the body b at the offset i was run: s is the state after it, n the next offset, and its line the first r bytes of l
 pub record Turned (s₀ : State) (k : ℕ) (b : List ℕ) (i : ℕ) (s : State) (n : ℕ) (l : List ℕ) (r : ℕ) : Type 0 where

@@ -1,10 +1,12 @@
 -- A record of a tape: its kind, and its body as the part of the tape that begins after its kind. Definitions only.
-use Prim.Native.Nat.{ℕ}
+use Prim.Native.Nat.{ℕ, zero, suc}
 use mathlib.Core.Bool.{_&&_, cond}
 use mathlib.Core.List.{List, [], _∷_}
 use lib.Dec.{ltb, leb, eqb}
 use lib.ListN.{length, getD}
+use Rattle.float.specs.declared.AvailableSpace.{AvailableSpace}
 use Rattle.float.specs.declared.BandNumber.{BandNumber}
+use Rattle.tape.specs.declared.record.Mode.{Mode}
 use Rattle.tape.specs.declared.record.Read.{Read}
 use Rattle.tape.specs.declared.record.Record.{Record}
 use Rattle.tape.specs.Bytes.{u16At, f32At}
@@ -20,6 +22,13 @@ bodyLen k = getD bodyLens k 0
 unfoldable pub afterAt : List ℕ → ℕ → BandNumber
 afterAt b i = cond (eqb (u16At b i) 65535) BandNumber.None (BandNumber.At (u16At b i))
 
+-- mode 0 definite, 1 min, 2 max; the number is not read unless definite
+unfoldable pub modeOf : ℕ → List ℕ → Mode
+modeOf zero b = Mode.Known (AvailableSpace.Definite (f32At b 1))
+modeOf (suc zero) b = Mode.Known AvailableSpace.MinContent
+modeOf (suc (suc zero)) b = Mode.Known AvailableSpace.MaxContent
+modeOf (suc (suc (suc m))) b = Mode.Unknown
+
 -- a whole body, by kind
 abbrev pub recordOf : ℕ → List ℕ → Record
 recordOf k b =
@@ -29,7 +38,7 @@ recordOf k b =
     ∷ Record.Place (getD b 0 0) (getD b 1 0) (f32At b 2) (f32At b 6) (f32At b 10) (f32At b 14) (f32At b 18)
     ∷ Record.Content (f32At b 0) (f32At b 4) (f32At b 8) (getD b 12 0) (afterAt b 13)
     ∷ Record.Bfc (f32At b 0) (f32At b 4) (f32At b 8) (f32At b 12) (f32At b 16) (getD b 20 0) (getD b 21 0) (afterAt b 22)
-    ∷ Record.Start (getD b 0 0) (f32At b 1)
+    ∷ Record.Start (modeOf (getD b 0 0) b)
     ∷ Record.Add (f32At b 0) (getD b 4 0) (getD b 5 0)
     ∷ Record.Result
     ∷ [])

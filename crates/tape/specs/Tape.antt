@@ -7,7 +7,6 @@ use lib.Ieee.{Float}
 use lib.IntN.{ℤ, pos, negℤ}
 use lib.ListN.{length, drop}
 use Rattle.float.specs.declared.Added.{Added}
-use Rattle.float.specs.declared.AvailableSpace.{AvailableSpace}
 use Rattle.float.specs.declared.CalculatorAnswer.{CalculatorAnswer}
 use Rattle.float.specs.declared.FloatContext.{FloatContext}
 use Rattle.float.specs.declared.Placed.{Placed}
@@ -20,6 +19,7 @@ use Rattle.float.specs.Page.{pageOf, front, freshContext}
 use Rattle.float.specs.Place.{placeOf, widthOf}
 use Rattle.float.specs.Slot.{content, bfc}
 use Rattle.float.specs.Calculator.{calculatorOf, addOf, resultOf}
+use Rattle.tape.specs.declared.record.Mode.{Mode}
 use Rattle.tape.specs.declared.record.Read.{Read}
 use Rattle.tape.specs.declared.record.Record.{Record}
 use Rattle.tape.specs.declared.step.Calculator.{Calculator}
@@ -52,12 +52,10 @@ placed s r = onPage s (r .page) (placeLine (r .answer))
 abbrev pub onCalculator : State → Told Calculator → Told State
 onCalculator s r = told (record { page = s .page; calculator = r .after }) (r .line)
 
--- S: mode 0 definite, 1 min, 2 max; the number is not read unless definite
-unfoldable pub startOf : ℕ → Float → CalculatorAnswer
-startOf zero w = calculatorOf (AvailableSpace.Definite w)
-startOf (suc zero) w = calculatorOf AvailableSpace.MinContent
-startOf (suc (suc zero)) w = calculatorOf AvailableSpace.MaxContent
-startOf (suc (suc (suc m))) w = CalculatorAnswer.Refused Refusal.UnknownCode
+-- S: an unknown mode is refusal 1
+unfoldable pub startOf : Mode → CalculatorAnswer
+startOf (Mode.Known a) = calculatorOf a
+startOf Mode.Unknown = CalculatorAnswer.Refused Refusal.UnknownCode
 
 unfoldable pub started : Calculator → CalculatorAnswer → Told Calculator
 started c (CalculatorAnswer.Started new) = told (Calculator.One new) (row 83 [])
@@ -87,7 +85,7 @@ stepOf s (Record.Place side clear w h y l r) = placed s (placeOf (s .page) (reco
 stepOf s (Record.Content y l r clear after) = told s (contentLine (content (pageOf (s .page)) (record { minY = y; left = l; right = r; clear = clear; after = after })))
 stepOf s (Record.Bfc y l r ml mr d clear after) =
     told s (bfcLine (bfc (pageOf (s .page)) (record { minY = y; left = l; right = r; leftMargin = ml; rightMargin = mr; direction = d; clear = clear; after = after })))
-stepOf s (Record.Start mode w) = onCalculator s (started (s .calculator) (startOf mode w))
+stepOf s (Record.Start mode) = onCalculator s (started (s .calculator) (startOf mode))
 stepOf s (Record.Add w side clear) = onCalculator s (addTo (s .calculator) w side clear)
 stepOf s Record.Result = told s (resultLine (s .calculator))
 

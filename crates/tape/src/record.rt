@@ -1,11 +1,18 @@
 // The records of a tape. A body is read as the part of the tape that begins after its kind.
 use crate::bytes::f32_at;
 use crate::bytes::u16_at;
+use float::AvailableSpace;
 use float::BandNumber;
 ghost use mathlib.Core.Path.{_≡_};
 ghost use Prim.Native.Nat.{_+_, _<_, _≤_};
 ghost use lib.ListN.{length};
 ghost use Rattle.tape.specs.Record.{bodyLen, afterAt, recordOf, readOf};
+
+// The mode of a calculator, with the number of a definite one.
+pub enum Mode {
+    Known(AvailableSpace),
+    Unknown,
+}
 
 // A record, by its kind.
 pub enum Record {
@@ -37,10 +44,7 @@ pub enum Record {
         clear: u8,
         after: BandNumber,
     },
-    Start {
-        mode: u8,
-        number: f32,
-    },
+    Start(Mode),
     Add {
         width: f32,
         side: u8,
@@ -128,13 +132,17 @@ fn read_bfc(b: &[u8]) -> Record
     }
 }
 
+// The number is read only where it is one.
 fn read_start(b: &[u8]) -> Record
     requires { ⌜ 5 ≤ length (now b) ⌝ }
     ensures { λ r. ⌜ r ≡ recordOf 5 (now (b .entry)) ⌝ }
 {
-    Record::Start {
-        mode: b[0],
-        number: f32_at(b, 1),
+    let mode = b[0];
+    match mode {
+        0 => Record::Start(Mode::Known(AvailableSpace::Definite(f32_at(b, 1)))),
+        1 => Record::Start(Mode::Known(AvailableSpace::MinContent)),
+        2 => Record::Start(Mode::Known(AvailableSpace::MaxContent)),
+        _ => Record::Start(Mode::Unknown),
     }
 }
 

@@ -3,26 +3,45 @@ use crate::line::bfc_line;
 use crate::line::content_line;
 use crate::line::done_line;
 use crate::line::letter_line;
-use crate::line::place_line;
 use crate::line::refused_line;
 use crate::line::width_line;
+use crate::record::Mode;
+use crate::record::Read;
 use crate::record::Record;
 use float::AvailableSpace;
+use float::Bottom;
 use float::CalculatorAnswer;
 use float::Done;
 use float::FloatContext;
+use float::FloatDirection;
 use float::FloatIntrinsicWidthCalculator;
+use float::Head;
 use float::Refusal;
+use float::Segment;
+use float::ask;
+use float::ask::Quest;
+use float::fit::Ask;
+use float::hold;
+use float::hold::Admission;
+use float::hold::Check;
 ghost use mathlib.Core.Path.{_≡_};
 ghost use mathlib.Core.Bool.{true, false, _&&_};
-ghost use mathlib.Core.List.{[], _∷_};
-ghost use Prim.Native.Nat.{_≤_};
+ghost use mathlib.Core.List.{List, [], _∷_};
+ghost use Prim.Native.Nat.{_≤_, _-_, min};
 ghost use lib.Dec.{ltb};
-ghost use lib.ListN.{length};
+ghost use lib.ListN.{length, getD};
+ghost use Rattle.float.specs.declared.FloatContext.{FloatContext as PageOf};
+ghost use Rattle.float.specs.declared.Segment.{Segment as SegmentOf};
+ghost use Rattle.float.specs.declared.PlacedFloatedBox.{PlacedFloatedBox as BoxOf};
+ghost use Rattle.float.specs.Bands.{none};
+ghost use Rattle.float.specs.Head.{pageWith};
+ghost use Rattle.tape.specs.declared.record.Record.{Record as RecordOf};
+ghost use Rattle.tape.specs.declared.step.Calculator.{Calculator as CalculatorOf};
+ghost use Rattle.float.specs.Quest.{Found};
 ghost use Rattle.float.specs.Numbers.{size, plusZero};
 ghost use Rattle.float.specs.Refuse.{checkOf};
-ghost use Rattle.tape.specs.Put.{Put, Tells, keeps, stateOf};
-ghost use Rattle.tape.specs.Tape.{freshState, startOf, started, notAdded, addTo, resultLine, stepOf};
+ghost use Rattle.tape.specs.Put.{Put, Tells, Leaves, Places, Unplaced, asksOf, questRecord, reckons, questOf, noQuest, freshHead, stateOf};
+ghost use Rattle.tape.specs.Tape.{startOf, started, notAdded, addTo, resultLine, stepOf};
 
 pub enum Calculator {
     None,
@@ -35,44 +54,26 @@ pub struct State {
     pub calculator: Calculator,
 }
 
-// The page and the calculator after a record, and the length of its line.
-pub struct Stepped {
-    pub page: FloatContext,
-    pub calculator: Calculator,
-    pub len: usize,
-}
-
 // The calculator after a record that leaves the page, and the length of its line.
 pub struct Reckoned {
     pub calculator: Calculator,
     pub len: usize,
 }
 
-fn fresh_state() -> State
-    ensures { λ r. ⌜ r ≡ freshState ⌝ }
-{
-    State {
-        page: FloatContext::new(),
-        calculator: Calculator::None,
-    }
-}
-
-fn start_of(mode: u8, number: f32) -> CalculatorAnswer
-    ensures { λ r. ⌜ r ≡ startOf mode number ⌝ }
+fn start_of(mode: Mode) -> CalculatorAnswer
+    ensures { λ r. ⌜ r ≡ startOf mode ⌝ }
 {
     match mode {
-        0 => FloatIntrinsicWidthCalculator::new(AvailableSpace::Definite(number)),
-        1 => FloatIntrinsicWidthCalculator::new(AvailableSpace::MinContent),
-        2 => FloatIntrinsicWidthCalculator::new(AvailableSpace::MaxContent),
-        _ => CalculatorAnswer::Refused(Refusal::UnknownCode),
+        Mode::Known(a) => FloatIntrinsicWidthCalculator::new(a),
+        Mode::Unknown => CalculatorAnswer::Refused(Refusal::UnknownCode),
     }
 }
 
-fn start(old: Calculator, mode: u8, number: f32, line: &mut [u8]) -> Reckoned
+fn start(old: Calculator, mode: Mode, line: &mut [u8]) -> Reckoned
     requires { ⌜ 64 ≤ length (now line) ⌝ }
-    ensures { λ r. ⌜ Tells (started old (startOf mode number)) (r .calculator) (now (line .entry)) (now (line .exit)) (r .len) ⌝ }
+    ensures { λ r. ⌜ Tells (started old (startOf mode)) (r .calculator) (now (line .entry)) (now (line .exit)) (r .len) ⌝ }
 {
-    let answer = start_of(mode, number);
+    let answer = start_of(mode);
     match answer {
         CalculatorAnswer::Started(c) => Reckoned {
             calculator: Calculator::One(c),
@@ -135,11 +136,99 @@ fn result_line(calculator: Calculator, line: &mut [u8]) -> usize
     }
 }
 
-// A question or a call of the calculator: the page is looked at and not handed back.
-pub fn ask(page: FloatContext, calculator: Calculator, call: Record, line: &mut [u8]) -> Reckoned
-    requires { ⌜ (64 ≤ length (now line)) × (keeps call ≡ true) ⌝ }
-    ensures { λ r. ⌜ Tells (stepOf (stateOf page calculator) call) (stateOf page (r .calculator)) (now (line .entry)) (now (line .exit)) (r .len) ⌝ }
+// A call of the calculator.
+fn reckon(calculator: Calculator, call: Record, line: &mut [u8]) -> Reckoned
+    requires { ⌜ (64 ≤ length (now line)) × (reckons call ≡ true) ⌝ }
+    ensures { λ r. ⌜ ((page : PageOf) → Tells (stepOf (stateOf page calculator) call) (stateOf page (r .calculator)) (now (line .entry)) (now (line .exit)) (r .len)) ⌝ }
 {
+    match call {
+        Record::Start(mode) => start(calculator, mode, line),
+        Record::Add { width, side, clear } => add(calculator, width, side, clear, line),
+        _ => Reckoned {
+            calculator: calculator,
+            len: result_line(calculator, line),
+        },
+    }
+}
+
+// Whether a placement is to be made, and what is asked; else the refusal of one that is not.
+pub struct Placement {
+    pub is: bool,
+    pub no: Refusal,
+    pub admission: Admission,
+}
+
+pub fn placing(head: Head, read: Read) -> Placement
+    ensures { λ r. ⌜ (r .is ≡ true → Places head read (r .admission)) × (r .is ≡ false → Unplaced head read (r .no)) ⌝ }
+{
+    let Read::Whole(call) = read else {
+        return no_placing();
+    };
+    let Record::Place {
+        side,
+        clear,
+        width,
+        height,
+        min_y,
+        left,
+        right,
+    } = call
+    else {
+        return no_placing();
+    };
+    let admission = hold::admit(head, width, height, min_y, left, right, side, clear);
+    let check = admission.check;
+    match check {
+        Check::Passed => Placement {
+            is: true,
+            no: Refusal::UnknownCode,
+            admission: admission,
+        },
+        Check::Refused(no) => Placement {
+            is: false,
+            no: no,
+            admission: admission,
+        },
+    }
+}
+
+fn no_placing() -> Placement
+    ensures { λ r. ⌜ r .is ≡ false ⌝ }
+{
+    let ask = Ask {
+        width: 0.0,
+        height: 0.0,
+        page: 0.0,
+        cb_lead: 0.0,
+        cb_trail: 0.0,
+        side: FloatDirection::Left,
+    };
+    let admission = Admission {
+        check: Check::Passed,
+        ask: ask,
+        n: 0,
+        first: 0,
+        y: 0.0,
+    };
+    Placement {
+        is: false,
+        no: Refusal::UnknownCode,
+        admission: admission,
+    }
+}
+
+// Whether a question is to be answered, and what it looks for among the bands.
+pub struct Question {
+    pub is: bool,
+    pub quest: Quest,
+}
+
+pub fn asking(head: Head, read: Read) -> Question
+    ensures { λ r. ⌜ (r .is ≡ asksOf read) × (r .quest ≡ questOf head read) × (r .quest .n ≤ 96) × (r .quest .from ≤ r .quest .n) ⌝ }
+{
+    let Read::Whole(call) = read else {
+        return no_asking();
+    };
     match call {
         Record::Content {
             min_y,
@@ -147,12 +236,9 @@ pub fn ask(page: FloatContext, calculator: Calculator, call: Record, line: &mut 
             right,
             clear,
             after,
-        } => Reckoned {
-            calculator: calculator,
-            len: content_line(
-                line,
-                page.find_content_slot(min_y, left, right, clear, after),
-            ),
+        } => Question {
+            is: true,
+            quest: ask::content_quest(head, min_y, left, right, clear, after),
         },
         Record::Bfc {
             min_y,
@@ -163,73 +249,165 @@ pub fn ask(page: FloatContext, calculator: Calculator, call: Record, line: &mut 
             direction,
             clear,
             after,
-        } => Reckoned {
-            calculator: calculator,
-            len: bfc_line(
-                line,
-                page.find_bfc_slot(
-                    min_y,
-                    left,
-                    right,
-                    left_margin,
-                    right_margin,
-                    direction,
-                    clear,
-                    after,
-                ),
+        } => Question {
+            is: true,
+            quest: ask::bfc_quest(
+                head,
+                min_y,
+                left,
+                right,
+                left_margin,
+                right_margin,
+                direction,
+                clear,
+                after,
             ),
         },
-        Record::Start { mode, number } => start(calculator, mode, number, line),
-        Record::Add { width, side, clear } => add(calculator, width, side, clear, line),
-        _ => Reckoned {
-            calculator: calculator,
-            len: result_line(calculator, line),
-        },
+        _ => no_asking(),
     }
 }
 
-// A record that may change the page.
-pub fn step(page: FloatContext, calculator: Calculator, call: Record, line: &mut [u8]) -> Stepped
-    requires { ⌜ (64 ≤ length (now line)) × (keeps call ≡ false) ⌝ }
-    ensures { λ r. ⌜ Tells (stepOf (stateOf page calculator) call) (stateOf (r .page) (r .calculator)) (now (line .entry)) (now (line .exit)) (r .len) ⌝ }
+fn no_asking() -> Question
+    ensures { λ r. ⌜ r ≡ record { is = false; quest = noQuest } ⌝ }
+{
+    let quest = Quest {
+        check: Check::Passed,
+        n: 0,
+        from: 0,
+        above: 0.0,
+        y: 0.0,
+    };
+    Question {
+        is: false,
+        quest: quest,
+    }
+}
+
+// The line of a question: i and k are what was found of the bands, b the band i, last the last one.
+pub fn found_line(
+    head: Head,
+    read: Read,
+    q: Quest,
+    i: usize,
+    k: usize,
+    b: Segment,
+    last: Segment,
+    line: &mut [u8],
+) -> usize
+    requires { ⌜ (64 ≤ length (now line)) × (asksOf read ≡ true) × (q ≡ questOf head read) ⌝ }
+    ensures { λ r. ⌜ ((bs : List SegmentOf) (xs : List BoxOf) (calculator : CalculatorOf) (call : RecordOf) → length bs ≡ 96 → read ≡ Read.Whole call → Found bs q i k → b ≡ getD bs (min i 95) none → last ≡ getD bs (q .n - min (q .n) 1) none → Leaves (stepOf (stateOf (pageWith head bs xs) calculator) call) (stateOf (pageWith head bs xs) calculator) (now (line .entry)) (now (line .exit)) r) ⌝ }
+{
+    let Read::Whole(call) = read else {
+        return 0;
+    };
+    match call {
+        Record::Content {
+            min_y: _,
+            left,
+            right,
+            clear: _,
+            after: _,
+        } => content_line(line, ask::content_found(head, q, i, k, b, left, right)),
+        Record::Bfc {
+            min_y: _,
+            left,
+            right,
+            left_margin,
+            right_margin,
+            direction,
+            clear: _,
+            after: _,
+        } => bfc_line(
+            line,
+            ask::bfc_found(
+                head,
+                q,
+                i,
+                k,
+                b,
+                last,
+                left,
+                right,
+                left_margin,
+                right_margin,
+                direction,
+            ),
+        ),
+        _ => 0,
+    }
+}
+
+// The head and the calculator after a record, and the length of its line.
+pub struct Rest {
+    pub head: Head,
+    pub calculator: Calculator,
+    pub len: usize,
+}
+
+pub fn fresh_head() -> Head
+    ensures { λ r. ⌜ r ≡ freshHead ⌝ }
+{
+    Head {
+        width: 0.0,
+        count: 0,
+        box_count: 0,
+        left_bottom: Bottom::None,
+        right_bottom: Bottom::None,
+        ceiling: Bottom::None,
+        left_first: 0,
+        left_past: 0,
+        right_first: 0,
+        right_past: 0,
+    }
+}
+
+// Every other record: the arrays stay as they are. A fresh page is a fresh head. no is the refusal of a placement that comes here.
+pub fn rest_of(
+    head: Head,
+    calculator: Calculator,
+    call: Record,
+    no: Refusal,
+    line: &mut [u8],
+) -> Rest
+    requires { ⌜ (64 ≤ length (now line)) × (questRecord call ≡ false) ⌝ }
+    ensures { λ r. ⌜ ((bs : List SegmentOf) (xs : List BoxOf) → length bs ≡ 96 → length xs ≡ 64 → Unplaced head (Read.Whole call) no → Leaves (stepOf (stateOf (pageWith head bs xs) calculator) call) (stateOf (pageWith (r .head) bs xs) (r .calculator)) (now (line .entry)) (now (line .exit)) (r .len)) ⌝ }
 {
     match call {
+        Record::Fresh => Rest {
+            head: fresh_head(),
+            calculator: Calculator::None,
+            len: letter_line(line, b'N'),
+        },
         Record::Width(w) => {
-            let r = page.set_width(w);
+            let r = hold::widen(head, w);
             let answer = r.answer;
-            let after = r.page;
-            Stepped {
-                page: after,
+            let after = r.head;
+            Rest {
+                head: after,
                 calculator: calculator,
                 len: done_line(line, b'W', answer),
             }
         }
         Record::Place {
-            side,
-            clear,
-            width,
-            height,
-            min_y,
-            left,
-            right,
-        } => {
-            let r = page.place_floated_box(width, height, min_y, left, right, side, clear);
-            let answer = r.answer;
-            let after = r.page;
-            Stepped {
-                page: after,
-                calculator: calculator,
-                len: place_line(line, answer),
-            }
-        }
+            side: _,
+            clear: _,
+            width: _,
+            height: _,
+            min_y: _,
+            left: _,
+            right: _,
+        } => Rest {
+            head: head,
+            calculator: calculator,
+            len: refused_line(line, no),
+        },
         _ => {
-            let s = fresh_state();
-            let after = s.page;
-            let none = s.calculator;
-            Stepped {
-                page: after,
-                calculator: none,
-                len: letter_line(line, b'N'),
+            let s = reckon(calculator, call, line);
+            let after = s.calculator;
+            Rest {
+                head: head,
+                calculator: after,
+                len: s.len,
             }
         }
     }

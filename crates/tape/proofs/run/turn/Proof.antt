@@ -1,40 +1,29 @@
 -- `tape::run::turn` meets its contract, by what was read.
-use mathlib.Core.Path.{sym, _∙_}
+use mathlib.Core.Path.{sym, ap, _∙_}
 use native.Mathlib.Omega.{arith}
-use borrow.Author.Tests.{le-ltb}
-use Rattle.tape.proofs.Running.{body-fits, keeps-from, turned-whole, turned-broken}
+use Rattle.tape.specs.Put.{asksOf}
+use Rattle.tape.proofs.Running.{body-short, of-read, turned-whole, turned-broken}
 use borrow.Author.Needs.{needs}
 use Rattle.tape.proofs.run.turn.Statement.{statement}
 use Rattle.tape.proofs.run.turn.Tie as tie
 
-read-record-requires : tie.Need-read-record-requires
-read-record-requires c κs = search needs
-
 enum-known-read : tie.Need-enum-known-read
 enum-known-read c = search needs
 
-step-requires : tie.Need-step-requires
-step-requires c κs = (omega (arith, c .before .before .before .before .before .before .before .pre .0), keeps-from _ _ (sym (c .before .before .before .before .read-record .ensures) ∙ c .before .before .read .given .1) ∙ le-ltb 2 _ (c .before .before .before .before .before .before .before .pre .2))
+rest-of-requires : tie.Need-rest-of-requires
+rest-of-requires c κs = (omega (arith, c .before .before .before .before .before .pre .0), sym (ap asksOf (c .before .before .read .given .1)) ∙ c .before .before .before .before .before .pre .3)
 
-add-t15 : tie.Need-add-t15
-add-t15 c = search needs
+add-t16 : tie.Need-add-t16
+add-t16 c = search needs
 
 body-len-requires : tie.Need-body-len-requires
 body-len-requires c κs = search needs
 
-add-t17 : tie.Need-add-t17
-add-t17 c =
-    let h = body-fits _ _ (sym (c .before .before .before .before .before .before .before .before .before .read-record .ensures) ∙ c .before .before .before .before .before .before .before .read .given .1) in
-    omega (arith, c .body-len .ensures, c .before .before .before .before .before .before .before .before .before .before .before .before .pre .1)
+add-t18 : tie.Need-add-t18
+add-t18 c = let h = body-short (c .before .before .before .before .before .before .before .before .before .before .args .kind) in omega (arith, c .body-len .ensures, c .before .before .before .before .before .before .before .before .before .before .pre .1, c .before .before .before .before .before .before .before .before .before .before .pre .2)
 
 enum-told : tie.Need-enum-told
 enum-told c = search needs
-
-add-t18 : tie.Need-add-t18
-add-t18 c = search needs
-
-add-t20 : tie.Need-add-t20
-add-t20 c = search needs
 
 number-line-requires : tie.Need-number-line-requires
 number-line-requires c κs = search needs
@@ -43,27 +32,24 @@ same-length : tie.Need-same-length
 same-length c = search needs
 
 returns : tie.Need-returns
-returns c = turned-whole _ _ _ _ (c .before .before .before .before .step .kept .1 .1 .1 .0 ∙ c .before .before .before .before .before .before .before .before .before .before .before .before .pre .0) (sym (c .before .before .before .before .before .before .before .before .before .read-record .ensures) ∙ c .before .before .before .before .before .before .before .read .given .1) (c .before .before .before .before .step .ensures) (c .body-len .ensures)
+returns c bs xs body a b e h = turned-whole _ _ _ _ (c .before .before .before .before .rest-of .kept .1 .1 .1 .1 .0 ∙ c .before .before .before .before .before .before .before .before .before .before .pre .0) (sym e ∙ c .before .before .before .before .before .before .before .read .given .1) (c .before .before .before .before .rest-of .ensures bs xs a b (of-read (c .before .before .before .before .before .before .before .read .given .1) (c .before .before .before .before .before .before .before .before .before .before .pre .4))) (c .body-len .ensures)
 
 same-length-2 : tie.Need-same-length-2
 same-length-2 c = search needs
 
 returns-2 : tie.Need-returns-2
-returns-2 c = turned-broken _ _ _ _ (omega (arith, c .before .before .before .before .before .before .before .before .before .pre .1)) (sym (c .before .before .before .before .before .before .read-record .ensures) ∙ c .before .before .before .before .enum-told .given .1) (c .before .before .number-line .ensures)
+returns-2 c bs xs body a b e h = turned-broken _ _ _ _ (omega (arith, c .before .before .before .before .before .before .before .pre .1, c .before .before .before .before .before .before .before .pre .2)) h (sym e ∙ c .before .before .before .before .enum-told .given .1) (c .before .before .number-line .ensures)
 
 pub turn-spec : {M : Type 1} → statement M
 turn-spec =
     tie.close
     (tie.spec
-    read-record-requires
     enum-known-read
-    step-requires
-    add-t15
+    rest-of-requires
+    add-t16
     body-len-requires
-    add-t17
-    enum-told
     add-t18
-    add-t20
+    enum-told
     number-line-requires
     same-length
     returns
