@@ -1,8 +1,9 @@
 -- What a record leaves where the page is held in three parts: each equation of a call carried over to the record.
-use Prim.Native.Nat.{ℕ}
+use Prim.Native.Nat.{ℕ, _≤_, _<_}
 use mathlib.Core.Path.{_≡_, refl, sym, ap, _∙_, subst⁻¹}
 use mathlib.Core.Bool.{true}
 use mathlib.Core.List.{List, []}
+use native.Mathlib.Decide.{decLe}
 use native.Mathlib.Omega.{arith}
 use lib.Ieee.{Float}
 use lib.ListN.{length, length-replicate}
@@ -25,6 +26,7 @@ use Rattle.float.specs.Page.{pageOf, freshContext, noBox}
 use Rattle.float.specs.Place.{Call, placeOf, widthOf}
 use Rattle.float.specs.Slot.{ContentCall, BfcCall, content, bfc}
 use Rattle.float.specs.declared.ask.Quest.{Quest}
+use Rattle.float.proofs.Scan.{Scans, scan-starts}
 use Rattle.tape.specs.declared.record.Read.{Read}
 use Rattle.tape.specs.declared.record.Record.{Record}
 use Rattle.tape.specs.declared.step.Calculator.{Calculator}
@@ -109,3 +111,14 @@ pub record Asked (r : Read) : Type 0 where
 pub asked : (r : Read) → asksOf r ≡ true → Asked r
 asked (Read.Whole x) e = record { call = x; read = refl }
 asked Read.Broken e = let z : _≡_ {A = ℕ} 0 1 = cc in absurd (omega arith)
+
+-- where the bands are looked through again: at once at the end, or from the first on
+pub again-low : (i n r : ℕ) → (i < n → r ≡ n) → (n ≤ i → r ≡ 0) → r ≤ n
+again-low i n r f g = go (decLe n i)
+  where
+    go : Dec (n ≤ i) → r ≤ n
+    go (yes h) = let e = g h in omega arith
+    go (no h) = let e = f (omega arith) in omega arith
+
+pub again-scans : (bs : List Segment) (n : ℕ) (y : Float) {i : ℕ} (r : ℕ) → (n ≤ i → r ≡ 0) → n ≤ i → Scans bs n 0 y r
+again-scans bs n y r g h = subst⁻¹ (λ (k : ℕ). Scans bs n 0 y k) (g h) (scan-starts bs n 0 y (omega arith))

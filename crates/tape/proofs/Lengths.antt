@@ -72,14 +72,3 @@ by-kind s (suc (suc (suc (suc (suc (suc (suc (suc k)))))))) b = inr (omega arith
 pub length-offset : (i : ℕ) → i < 65536 → length (row 84 (decimal i ∷ [])) ≤ 11
 unfolding decimal
 length-offset i h = let e = one-field 84 (decimal i) in let d = length-digits 10 (decimals i i) i in let m = at-most 4 i i (omega arith) in omega arith
-
-pub body-most : (k : ℕ) → bodyLen k ≤ 24
-body-most zero = omega arith
-body-most (suc zero) = omega arith
-body-most (suc (suc zero)) = omega arith
-body-most (suc (suc (suc zero))) = omega arith
-body-most (suc (suc (suc (suc zero)))) = omega arith
-body-most (suc (suc (suc (suc (suc zero))))) = omega arith
-body-most (suc (suc (suc (suc (suc (suc zero)))))) = omega arith
-body-most (suc (suc (suc (suc (suc (suc (suc zero))))))) = omega arith
-body-most (suc (suc (suc (suc (suc (suc (suc (suc k)))))))) = omega arith

@@ -4,7 +4,6 @@ pub mod Digits
 pub mod Putting
 pub mod Same
 pub mod Held
-pub mod Looking
 pub mod Stepping
 pub mod Running
 pub mod Going

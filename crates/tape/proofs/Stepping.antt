@@ -26,7 +26,7 @@ use Rattle.tape.specs.declared.record.Record.{Record}
 use Rattle.tape.specs.declared.step.Calculator.{Calculator}
 use Rattle.tape.specs.declared.step.Question.{Question}
 use Rattle.tape.specs.declared.step.State.{State}
-use Rattle.tape.specs.Hold.{Admits}
+use Rattle.float.specs.Hold.{Admits}
 use Rattle.tape.specs.Put.{Tells, Places, Unplaced, reckons, questRecord, asksOf, noQuest, questIn, questOf, placeRecord}
 use Rattle.tape.specs.Tape.{Told, onCalculator, notAdded}
 use Rattle.tape.proofs.record.Record.{the-type}
@@ -132,23 +132,26 @@ module _ (p : Head) where
 -- ---- a placement
 
 -- what `placing` ensures of its answer b, a
-abbrev pub Placing : Head → Read → Bool → Admission → Type 0
-Placing p r b a = (b ≡ true → Places p r a) × (b ≡ false → Unplaced p r (a .no))
+abbrev pub Placing : Head → Read → Bool → Refusal → Admission → Type 0
+Placing p r b n a = (b ≡ true → Places p r a) × (b ≡ false → Unplaced p r n)
 
 -- a record is of one call
 one-call : {s s₂ k k₂ : ℕ} {w w₂ h h₂ y y₂ l l₂ r r₂ : Float} → Record.Place s k w h y l r ≡ Record.Place s₂ k₂ w₂ h₂ y₂ l₂ r₂ → _≡_ {A = Call} (record { side = s; clear = k; width = w; height = h; minY = y; left = l; right = r }) (record { side = s₂; clear = k₂; width = w₂; height = h₂; minY = y₂; left = l₂; right = r₂ })
 one-call e = cc
 
-module _ {p : Head} {r : Read} {a : Admission} where
-  pub admitted : (c : Call) → r ≡ Read.Whole (placeRecord c) → Admits p c a → Placing p r (a .passed) a
-  admitted c e h = (λ t. record { call = c; read = e; admits = h; passed = t }, λ t. record { refused = λ d g bs xs l m. ap (placeOf (pageWith p bs xs)) (sym (one-call (one-record e g))) ∙ h .refused t bs xs l m })
+module _ {p : Head} {r : Read} {n : Refusal} {a : Admission} where
+  pub admitted : (c : Call) → r ≡ Read.Whole (placeRecord c) → Admits p c a → a .check ≡ Check.Passed → Placing p r true n a
+  admitted c e h k = (λ t. record { call = c; read = e; admits = h; passed = k }, λ t. apart (sym t))
+
+  pub not-admitted : (c : Call) → r ≡ Read.Whole (placeRecord c) → Admits p c a → a .check ≡ Check.Refused n → Placing p r false n a
+  not-admitted c e h k = (λ t. apart t, λ t. record { refused = λ d g bs xs l m. ap (placeOf (pageWith p bs xs)) (sym (one-call (one-record e g))) ∙ h .refused n k bs xs l m })
 
   -- a broken record is no placement, and neither is the record of the last arm
-  not-placed : {b : Bool} → b ≡ false → ((c : Call) → r ≡ Read.Whole (placeRecord c) → ⊥) → Placing p r b a
+  not-placed : {b : Bool} → b ≡ false → ((c : Call) → r ≡ Read.Whole (placeRecord c) → ⊥) → Placing p r b n a
   not-placed e h = (λ t. apart (sym e ∙ t), λ f. record { refused = λ c g. absurd (h c g) })
 
-  pub broken-unplaced : {b : Bool} → b ≡ false → r ≡ Read.Broken → Placing p r b a
+  pub broken-unplaced : {b : Bool} → b ≡ false → r ≡ Read.Broken → Placing p r b n a
   broken-unplaced e h = not-placed e (λ c g. not-both h g)
 
-  pub whole-unplaced : {b : Bool} {x : Record} → b ≡ false → r ≡ Read.Whole x → OneOf placeTags (tagOf the-type x) → Placing p r b a
+  pub whole-unplaced : {b : Bool} {x : Record} → b ≡ false → r ≡ Read.Whole x → OneOf placeTags (tagOf the-type x) → Placing p r b n a
   whole-unplaced e h t = not-placed e (λ c g. miss placeTags 2 tt (subst (λ (y : Record). OneOf placeTags (tagOf the-type y)) (one-record h g) t))

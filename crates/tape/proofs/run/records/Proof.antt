@@ -1,58 +1,47 @@
 -- `tape::run::records` meets its contract. The outer invariant: the lines so far stand where they are written, and the rest of the tape makes the rest, in the state of the page's three parts.
-use Prim.Native.Nat.{ℕ, _+_, _-_, _≤_, _<_, min}
+use Prim.Native.Nat.{ℕ, _+_, _-_, _≤_, _<_}
 use denote.Ref.{now}
-use mathlib.Core.Path.{_≡_, refl, sym, ap, subst, subst⁻¹, _∙_}
-use mathlib.Core.Logic.{_⊎_, inl, inr, ⊎-elim}
+use mathlib.Core.Path.{_≡_, refl, sym, ap, _∙_}
+use mathlib.Core.Logic.{⊎-elim}
 use native.Mathlib.Omega.{arith}
-use native.Mathlib.Nat.{le-refl}
 use borrow.Author.Tests.{not-true, not-false}
-use lib.Ieee.{Float, binary32, add, lt, le}
 use lib.ListN.{length, take, drop, getD, length-take, length-drop, length-replicate, length-set}
-use Rattle.float.specs.declared.FloatContext.{FloatContext}
-use Rattle.float.specs.Bands.{none, firstBelow}
+use Rattle.float.specs.Bands.{none}
 use Rattle.float.specs.Head.{pageWith}
-use Rattle.float.specs.Place.{walked, placeOf}
-use Rattle.float.specs.Plan.{Tab}
-use Rattle.float.proofs.Bands.{next-in}
-use Rattle.float.proofs.Coded.{tab-start, tab-next}
-use Rattle.tape.proofs.Lengths.{body-most}
-use Rattle.tape.specs.Hold.{Found, Enters, source, shaped}
-use Rattle.tape.specs.Record.{bodyLen}
-use Rattle.tape.specs.declared.step.Calculator.{Calculator}
+use Rattle.float.specs.Hold.{WalkedBack, Enters}
+use Rattle.float.specs.Place.{placeOf}
+use Rattle.float.specs.Quest.{Found}
+use Rattle.float.proofs.Holding.{looked-order, Walking, walking-first, walking-in, walking-next, walking-end, walking-stop, Writing, writing-first, writing-next, writing-end}
+use Rattle.float.proofs.Scan.{Scans, scan-starts, scan-goes, scan-finds, scan-ends}
 use Rattle.tape.specs.Put.{Places, Turned, stateOf}
-use Rattle.tape.specs.Tape.{freshState}
+use Rattle.tape.specs.Record.{bodyLen}
 use Rattle.tape.proofs.Going.{Going, going-fresh, going-room, going-more, going-done}
-use Rattle.tape.proofs.Held.{asked, of-parts, place-left, bands-long, boxes-long}
-use Rattle.tape.proofs.Looking.{looked, again-low, stop-at, stops-in, walks, walked-back}
-use Rattle.tape.proofs.Running.{turned-whole}
+use Rattle.tape.proofs.Held.{asked, of-parts, place-left, bands-long, boxes-long, again-low, again-scans}
+use Rattle.tape.proofs.Running.{body-short, turned-whole}
 use borrow.Author.Needs.{needs}
 use Rattle.tape.proofs.run.records.Statement.{statement}
 use Rattle.tape.proofs.run.records.Tie as tie
 
--- the first band that ends below the raised y is that from i on
 abbrev Inv-loop2 : tie.InvT-loop2
-Inv-loop2 tape answers writing line bands boxes head calculator at to kind read q i₀ i = (i ≤ q .n) × (firstBelow (take (q .n) bands) (q .from) (q .above) ≡ firstBelow (take (q .n) bands) i (q .above))
+Inv-loop2 tape answers writing line bands boxes head calculator at to kind read q i₀ i = Scans bands (q .n) (q .from) (q .above) i
 
 abbrev μ-loop2 : tie.MeasureT-loop2
 μ-loop2 tape answers writing line bands boxes head calculator at to kind read q i₀ i = q .n - i
 
--- where none was found, the first that ends below min_y is that from k on
 abbrev Inv-loop3 : tie.InvT-loop3
-Inv-loop3 tape answers writing line bands boxes head calculator at to kind read q i k₀ k = (k ≤ q .n) × (q .n ≤ i → firstBelow (take (q .n) bands) 0 (q .y) ≡ firstBelow (take (q .n) bands) k (q .y))
+Inv-loop3 tape answers writing line bands boxes head calculator at to kind read q i k₀ k = (k ≤ q .n) × (q .n ≤ i → Scans bands (q .n) 0 (q .y) k)
 
 abbrev μ-loop3 : tie.MeasureT-loop3
 μ-loop3 tape answers writing line bands boxes head calculator at to kind read q i k₀ k = q .n - k
 
--- the end walked back is that walked back from e
 abbrev Inv-loop4 : tie.InvT-loop4
-Inv-loop4 tape answers writing line bands boxes head calculator at to kind adm a n spot bottom stop e₀ e = (stop ≤ e) × (e ≤ spot .end) × (walked (take n bands) (spot .start) bottom (spot .end) ≡ walked (take n bands) (spot .start) bottom e)
+Inv-loop4 tape answers writing line bands boxes head calculator at to kind adm a n spot bottom stop e₀ e = Walking (take n bands) a spot stop e
 
 abbrev μ-loop4 : tie.MeasureT-loop4
 μ-loop4 tape answers writing line bands boxes head calculator at to kind adm a n spot bottom stop e₀ e = e
 
--- the bands from j to high are made
 abbrev Inv-loop5 : tie.InvT-loop5
-Inv-loop5 tape answers writing line bands₀ boxes head calculator at to kind a n bottom stop e entry plan j₀ bands j = (plan .low ≤ j) × (j ≤ plan .high) × Tab (shaped a plan) (source plan) bands₀ bands j (plan .high)
+Inv-loop5 tape answers writing line bands₀ boxes head calculator at to kind a n bottom stop e entry plan j₀ bands j = Writing a plan bands₀ bands j
 
 abbrev μ-loop5 : tie.MeasureT-loop5
 μ-loop5 tape answers writing line bands₀ boxes head calculator at to kind a n bottom stop e entry plan j₀ bands j = j
@@ -63,15 +52,17 @@ Inv-loop tape answers₀ writing line₀ bands₀ boxes₀ head₀ calculator₀
 abbrev μ-loop : tie.MeasureT-loop
 μ-loop tape answers₀ writing line₀ bands₀ boxes₀ head₀ calculator₀ at₀ to₀ answers line bands boxes head calculator at to = length tape - at
 
+-- the bands that are looked through are some of the array
+few : (c : tie.After-asking Inv-loop2 μ-loop2 Inv-loop3 μ-loop3 Inv-loop4 μ-loop4 Inv-loop5 μ-loop5 Inv-loop μ-loop) → c .asking .result .quest .n ≤ length (c .before .before .before .before .before .loop .bands)
+few c = omega (arith, c .before .before .before .before .before .loop .inv .2, c .asking .ensures .2)
+
 -- both loops leave at what the question looks for
 found : (c : tie.Joined4 Inv-loop2 μ-loop2 Inv-loop3 μ-loop3 Inv-loop4 μ-loop4 Inv-loop5 μ-loop5 Inv-loop μ-loop) → Found (c .before .before .before .before .before .before .before .before .before .before .before .before .before .before .loop .bands) (c .before .before .before .before .before .before .before .before .before .asking .result .quest) (c .before .before .before .before .before .before .loop2 .i) (c .before .before .loop3 .k)
-found c =
-    let l = c .before .before .before .before .before .before .before .before .before .before .before .before .before .before .loop in
-    let q = c .before .before .before .before .before .before .before .before .before .asking .result .quest in
-    let h = c .before .before .before .before .before .before .before .before .before .asking .ensures .2 in
+found c = 
+    let r = few (c .before .before .before .before .before .before .before .before .before) in
     record {
-      at = looked (l .bands) (q .n) (q .from) (c .before .before .before .before .before .before .loop2 .i) (q .above) (omega (arith, l .inv .2, h)) (c .before .before .before .before .before .before .loop2 .inv .0) (c .before .before .before .before .before .before .loop2 .inv .1) (⊎-elim (λ w. inl (w .left)) (λ w. inr (w .2 .taken)) (c .before .before .before .before .if2 .came));
-      lower = λ e. looked (l .bands) (q .n) 0 (c .before .before .loop3 .k) (q .y) (omega (arith, l .inv .2, h)) (c .before .before .loop3 .inv .0) (c .before .before .loop3 .inv .1 (omega arith)) (⊎-elim (λ w. inl (w .left)) (λ w. inr (w .2 .taken)) (c .if4 .came));
+      at = ⊎-elim (λ w. scan-ends r (c .before .before .before .before .before .before .loop2 .inv) (w .left)) (λ w. scan-finds r (c .before .before .before .before .before .before .loop2 .inv) (w .0 .taken) (w .2 .taken)) (c .before .before .before .before .if2 .came);
+      lower = λ e. let s = c .before .before .loop3 .inv .1 (omega arith) in ⊎-elim (λ w. scan-ends r s (w .left)) (λ w. scan-finds r s (w .0 .taken) (w .2 .taken)) (c .if4 .came);
     }
 
 -- a question was answered
@@ -85,39 +76,37 @@ question c = λ m e.
 places : (c : tie.Then6 Inv-loop2 μ-loop2 Inv-loop3 μ-loop3 Inv-loop4 μ-loop4 Inv-loop5 μ-loop5 Inv-loop μ-loop) → Places (c .before .before .before .before .before .before .before .before .before .loop .head) (c .before .before .before .before .before .read-record .result) (c .before .before .placing .result .admission)
 places c = c .before .before .placing .ensures .0 (c .if6 .taken)
 
+-- its bands are some of the array
 long : (c : tie.Then6 Inv-loop2 μ-loop2 Inv-loop3 μ-loop3 Inv-loop4 μ-loop4 Inv-loop5 μ-loop5 Inv-loop μ-loop) → c .before .before .placing .result .admission .n ≤ length (c .before .before .before .before .before .before .before .before .before .loop .bands)
 long c = omega (arith, places (c) .admits .few, c .before .before .before .before .before .before .before .before .before .loop .inv .2)
 
 -- where the end may walk, the search ended in a band
 end-in : (c : tie.In-loop4 Inv-loop2 μ-loop2 Inv-loop3 μ-loop3 Inv-loop4 μ-loop4 Inv-loop5 μ-loop5 Inv-loop μ-loop) → c .before .before .before .before .before .look .result .end < c .before .before .before .before .before .before .before .before .before .placing .result .admission .n
-end-in c = stops-in _ _ (c .before .before .stop-of .result) (c .before .loop4 .e) (c .before .before .stop-of .ensures .1) (c .loop4-test .taken) (c .before .loop4 .inv .1)
+end-in c = walking-in (c .before .before .before .before .before .before .before .before .before .before .before .before .before .before .before .before .loop .bands) (c .before .before .before .before .before .before .before .before .before .placing .result .admission .n) (long (c .before .before .before .before .before .before .before)) (c .before .before .before .before .before .before .before .before .before .placing .result .admission .ask) (c .before .before .before .before .before .look .result) (c .before .before .stop-of .result) (c .before .before .stop-of .ensures) (c .before .loop4 .e) (c .before .loop4 .inv) (c .loop4-test .taken)
 
 -- what the placement does, by its numbers
 entered : (c : tie.After-enter Inv-loop2 μ-loop2 Inv-loop3 μ-loop3 Inv-loop4 μ-loop4 Inv-loop5 μ-loop5 Inv-loop μ-loop) → Enters (c .before .before .before .before .before .before .before .before .before .before .before .before .before .before .before .before .before .before .before .before .before .before .before .loop .bands) (c .before .before .before .before .before .before .before .before .before .before .before .before .before .before .before .before .before .before .before .before .before .before .before .loop .boxes) (c .before .before .before .before .before .before .before .before .before .before .before .before .before .before .before .before .before .before .before .before .before .before .before .loop .head) (places (c .before .before .before .before .before .before .before .before .before .before .before .before .before .before) .call) (c .before .before .before .before .before .before .before .before .before .before .before .before .before .before .before .before .placing .result .admission .ask) (c .enter .result)
-entered c =
+entered c = 
     let l = c .before .before .before .before .before .before .before .before .before .before .before .before .before .before .before .before .before .before .before .before .before .before .before .loop in
-    let o = c .before .before .before .before .before .before .before .before .before .stop-of .ensures in
-    let e = c .before .before .before .before .before .before .before .before .loop4 in
     let p = places (c .before .before .before .before .before .before .before .before .before .before .before .before .before .before) in
     c .enter .ensures (p .call) (l .bands) (l .boxes) (l .inv .2) (l .inv .3) (p .admits) (p .passed) (c .before .before .before .before .before .before .before .before .before .before .before .before .look .ensures)
-    (walked-back (l .bands) (c .before .before .before .before .before .before .before .before .before .before .before .before .before .before .before .before .placing .result .admission .n) (c .before .before .before .before .before .before .before .before .before .before .before .before .before .before .before .before .placing .result .admission .ask) (c .before .before .before .before .before .before .before .before .before .before .before .before .look .result) _ (e .e) (long (c .before .before .before .before .before .before .before .before .before .before .before .before .before .before)) (o .0) (o .1) (e .inv .0) (e .inv .1) (e .inv .2) (⊎-elim (λ w. inl (w .left)) (λ w. inr (not-true _ (w .1 .taken))) (c .before .before .before .before .before .before .before .loop4-test .came)))
+    (⊎-elim (λ w. walking-end (c .before .before .before .before .before .before .before .before .before .before .before .before .before .before .before .before .before .before .before .before .before .before .before .loop .bands) (c .before .before .before .before .before .before .before .before .before .before .before .before .before .before .before .before .placing .result .admission .n) (long (c .before .before .before .before .before .before .before .before .before .before .before .before .before .before)) (c .before .before .before .before .before .before .before .before .before .before .before .before .before .before .before .before .placing .result .admission .ask) (c .before .before .before .before .before .before .before .before .before .before .before .before .look .result) (c .before .before .before .before .before .before .before .before .before .stop-of .result) (c .before .before .before .before .before .before .before .before .before .stop-of .ensures) (c .before .before .before .before .before .before .before .before .loop4 .e) (c .before .before .before .before .before .before .before .before .loop4 .inv) (w .left)) (λ w. walking-stop (c .before .before .before .before .before .before .before .before .before .before .before .before .before .before .before .before .before .before .before .before .before .before .before .loop .bands) (c .before .before .before .before .before .before .before .before .before .before .before .before .before .before .before .before .placing .result .admission .n) (long (c .before .before .before .before .before .before .before .before .before .before .before .before .before .before)) (c .before .before .before .before .before .before .before .before .before .before .before .before .before .before .before .before .placing .result .admission .ask) (c .before .before .before .before .before .before .before .before .before .before .before .before .look .result) (c .before .before .before .before .before .before .before .before .before .stop-of .result) (c .before .before .before .before .before .before .before .before .before .stop-of .ensures) (c .before .before .before .before .before .before .before .before .loop4 .e) (c .before .before .before .before .before .before .before .before .loop4 .inv) (w .0 .taken) (not-true _ (w .1 .taken))) (c .before .before .before .before .before .before .before .loop4-test .came))
     (ap (λ (k : ℕ). getD (l .bands) k none) (c .before .before .before .before .before .before .last-of2 .ensures))
     (ap (λ (k : ℕ). getD (l .bands) k none) (c .before .before .before .before .placed2 .ensures))
     (ap (λ (k : ℕ). getD (l .bands) k none) (c .before .before .placed3 .ensures))
 
+-- where it is accepted, there is room
 room : (c : tie.Then8 Inv-loop2 μ-loop2 Inv-loop3 μ-loop3 Inv-loop4 μ-loop4 Inv-loop5 μ-loop5 Inv-loop μ-loop) → (c .before .enter .result .plan .low ≤ c .before .enter .result .plan .high) × (c .before .enter .result .plan .high ≤ 96) × (c .before .before .before .before .before .before .before .before .before .before .before .before .before .before .before .before .before .before .before .before .before .before .before .before .loop .head .«box_count» < 64)
 room c = entered (c .before) .room (c .if8 .taken)
 
 -- the page after the placement, written or refused
 done : (c : tie.Joined8 Inv-loop2 μ-loop2 Inv-loop3 μ-loop3 Inv-loop4 μ-loop4 Inv-loop5 μ-loop5 Inv-loop μ-loop) → (placeOf (pageWith (c .before .before .before .before .before .before .before .before .before .before .before .before .before .before .before .before .before .before .before .before .before .before .before .before .loop .head) (c .before .before .before .before .before .before .before .before .before .before .before .before .before .before .before .before .before .before .before .before .before .before .before .before .loop .bands) (c .before .before .before .before .before .before .before .before .before .before .before .before .before .before .before .before .before .before .before .before .before .before .before .before .loop .boxes)) (places (c .before .before .before .before .before .before .before .before .before .before .before .before .before .before .before) .call) ≡ record { answer = c .before .enter .result .answer; page = (pageWith (c .if8 .head) (c .if8 .bands) (c .if8 .boxes)) }) × (length (c .if8 .bands) ≡ 96) × (length (c .if8 .boxes) ≡ 64)
-done c =
+done c = 
     let l = c .before .before .before .before .before .before .before .before .before .before .before .before .before .before .before .before .before .before .before .before .before .before .before .before .loop in
-    let p = c .before .enter .result .plan in
     ⊎-elim
     (λ w.
-    let z : w .2 .j ≡ p .low = omega (arith, w .4 .left, w .2 .inv .0) in
-    let t = subst (λ (m : ℕ). Tab (shaped (c .before .before .before .before .before .before .before .before .before .before .before .before .before .before .before .before .before .placing .result .admission .ask) p) (source p) (l .bands) (w .2 .bands) m (p .high)) z (w .2 .inv .2) in
-    (of-parts (entered (c .before) .accepted (w .0 .taken) (w .2 .bands) t) (w .9) (w .7) (w .8), ap length (w .7) ∙ t .long ∙ l .inv .2, ap length (w .8) ∙ length-set (l .boxes) (l .head .«box_count») (c .before .enter .result .floated) ∙ l .inv .3))
+        let t = writing-end (c .before .before .before .before .before .before .before .before .before .before .before .before .before .before .before .before .before .placing .result .admission .ask) (c .before .enter .result .plan) (l .bands) (w .2 .bands) (w .2 .j) (w .2 .inv) (w .4 .left) in
+        (of-parts (entered (c .before) .accepted (w .0 .taken) (w .2 .bands) t) (w .9) (w .7) (w .8), ap length (w .7) ∙ t .long ∙ l .inv .2, ap length (w .8) ∙ length-set (l .boxes) (l .head .«box_count») (c .before .enter .result .floated) ∙ l .inv .3))
     (λ w. (of-parts (entered (c .before) .refused (w .0 .left)) (w .3) (w .1) (w .2), ap length (w .1) ∙ l .inv .2, ap length (w .2) ∙ l .inv .3))
     (c .if8 .came)
 
@@ -130,7 +119,7 @@ placement c = λ m e.
 
 -- any other record
 other : (c : tie.After-turn Inv-loop2 μ-loop2 Inv-loop3 μ-loop3 Inv-loop4 μ-loop4 Inv-loop5 μ-loop5 Inv-loop μ-loop) → Turned (stateOf (pageWith (c .before .before .before .before .before .before .before .before .before .before .before .loop .head) (c .before .before .before .before .before .before .before .before .before .before .before .loop .bands) (c .before .before .before .before .before .before .before .before .before .before .before .loop .boxes)) (c .before .before .before .before .before .before .before .before .before .before .before .loop .calculator)) (getD (now (c .before .before .before .before .before .before .before .before .before .before .before .before .before .before .before .before .before .before .args .tape)) (c .before .before .before .before .before .before .before .before .before .before .before .loop .at) 0) (take (length (now (c .before .before .before .before .before .before .before .before .before .before .before .before .before .before .before .before .before .before .args .tape)) - (c .before .before .before .before .before .before .before .before .before .before .before .loop .at + 1)) (drop (c .before .before .before .before .before .before .before .before .before .before .before .loop .at + 1) (now (c .before .before .before .before .before .before .before .before .before .before .before .before .before .before .before .before .before .before .args .tape)))) (c .before .before .before .before .before .before .before .before .before .before .before .loop .at) (stateOf (pageWith (c .turn .result .head) (c .before .before .before .before .before .before .before .before .before .before .before .loop .bands) (c .before .before .before .before .before .before .before .before .before .before .before .loop .boxes)) (c .turn .result .calculator)) (c .turn .result .next) (c .turn .last .1 .1 .1 .1 .1 .1 .1 .0) (c .turn .result .len)
-other c =
+other c = 
     let l = c .before .before .before .before .before .before .before .before .before .before .before .loop in
     let x = length-take (length (now (c .before .before .before .before .before .before .before .before .before .before .before .before .before .before .before .before .before .before .args .tape)) - (l .at + 1)) (drop (l .at + 1) (now (c .before .before .before .before .before .before .before .before .before .before .before .before .before .before .before .before .before .before .args .tape))) in
     let y = length-drop (l .at + 1) (now (c .before .before .before .before .before .before .before .before .before .before .before .before .before .before .before .before .before .before .args .tape)) in
@@ -143,7 +132,7 @@ fresh-head-requires : tie.Need-fresh-head-requires Inv-loop2 μ-loop2 Inv-loop3 
 fresh-head-requires c κs = search needs
 
 loop-holds : tie.Need-loop-holds Inv-loop2 μ-loop2 Inv-loop3 μ-loop3 Inv-loop4 μ-loop4 Inv-loop5 μ-loop5 Inv-loop μ-loop
-loop-holds c =
+loop-holds c = 
     let n = c .before .before .before .new .ensures in
     (going-fresh _ _ _ _ _ _ (c .fresh-head .ensures) (c .before .before .before .before .before .before .pre .0), length-replicate {A = ℕ} 80 0, bands-long n, boxes-long n)
 
@@ -169,7 +158,7 @@ asking-requires : tie.Need-asking-requires Inv-loop2 μ-loop2 Inv-loop3 μ-loop3
 asking-requires c κs = search needs
 
 loop2-holds : tie.Need-loop2-holds Inv-loop2 μ-loop2 Inv-loop3 μ-loop3 Inv-loop4 μ-loop4 Inv-loop5 μ-loop5 Inv-loop μ-loop
-loop2-holds c = (c .before .before .asking .ensures .3, refl)
+loop2-holds c = scan-starts _ _ _ _ (c .before .before .asking .ensures .3)
 
 mul-if3 : tie.Need-mul-if3 Inv-loop2 μ-loop2 Inv-loop3 μ-loop3 Inv-loop4 μ-loop4 Inv-loop5 μ-loop5 Inv-loop μ-loop
 mul-if3 c = omega arith
@@ -184,16 +173,13 @@ loop2-less : tie.Need-loop2-less Inv-loop2 μ-loop2 Inv-loop3 μ-loop3 Inv-loop4
 loop2-less c = omega arith
 
 loop2-again : tie.Need-loop2-again Inv-loop2 μ-loop2 Inv-loop3 μ-loop3 Inv-loop4 μ-loop4 Inv-loop5 μ-loop5 Inv-loop μ-loop
-loop2-again c =
-    let l = c .before .before .before .before .before .before .before .before .before .before .before .before .loop in
-    let h = c .before .before .before .before .before .before .before .asking .ensures .2 in
-    (omega arith, c .before .before .before .before .loop2 .inv .1 ∙ next-in (l .bands) _ _ (omega (arith, l .inv .2, h)) (c .before .before .before .before .loop2 .i) (c .before .before .if2 .taken) (c .if3 .left))
+loop2-again c = scan-goes (few (c .before .before .before .before .before .before .before)) (c .before .before .before .before .loop2 .inv) (c .before .before .if2 .taken) (c .if3 .left)
 
 again-requires : tie.Need-again-requires Inv-loop2 μ-loop2 Inv-loop3 μ-loop3 Inv-loop4 μ-loop4 Inv-loop5 μ-loop5 Inv-loop μ-loop
 again-requires c κs = search needs
 
 loop3-holds : tie.Need-loop3-holds Inv-loop2 μ-loop2 Inv-loop3 μ-loop3 Inv-loop4 μ-loop4 Inv-loop5 μ-loop5 Inv-loop μ-loop
-loop3-holds c = (again-low _ _ _ (c .again .ensures .0) (c .again .ensures .1), λ h. ap (λ (k : ℕ). firstBelow (take (c .before .before .before .before .before .before .asking .result .quest .n) (c .before .before .before .before .before .before .before .before .before .before .before .loop .bands)) k (c .before .before .before .before .before .before .asking .result .quest .y)) (sym (c .again .ensures .1 h)))
+loop3-holds c = let r = c .again .ensures in (again-low _ _ _ (r .0) (r .1), again-scans _ _ _ _ (r .1))
 
 mul-if5 : tie.Need-mul-if5 Inv-loop2 μ-loop2 Inv-loop3 μ-loop3 Inv-loop4 μ-loop4 Inv-loop5 μ-loop5 Inv-loop μ-loop
 mul-if5 c = omega arith
@@ -208,10 +194,7 @@ loop3-less : tie.Need-loop3-less Inv-loop2 μ-loop2 Inv-loop3 μ-loop3 Inv-loop4
 loop3-less c = omega arith
 
 loop3-again : tie.Need-loop3-again Inv-loop2 μ-loop2 Inv-loop3 μ-loop3 Inv-loop4 μ-loop4 Inv-loop5 μ-loop5 Inv-loop μ-loop
-loop3-again c =
-    let l = c .before .before .before .before .before .before .before .before .before .before .before .before .before .before .before .before .loop in
-    let h = c .before .before .before .before .before .before .before .before .before .before .before .asking .ensures .2 in
-    (omega arith, λ g. c .before .before .before .before .loop3 .inv .1 g ∙ next-in (l .bands) _ _ (omega (arith, l .inv .2, h)) (c .before .before .before .before .loop3 .k) (c .before .before .if4 .taken) (c .if5 .left))
+loop3-again c = (omega arith, λ g. scan-goes (few (c .before .before .before .before .before .before .before .before .before .before .before)) (c .before .before .before .before .loop3 .inv .1 g) (c .before .before .if4 .taken) (c .if5 .left))
 
 placed-requires : tie.Need-placed-requires Inv-loop2 μ-loop2 Inv-loop3 μ-loop3 Inv-loop4 μ-loop4 Inv-loop5 μ-loop5 Inv-loop μ-loop
 placed-requires c κs = search needs
@@ -241,30 +224,28 @@ slice-aggregate-put-line : tie.Need-slice-aggregate-put-line Inv-loop2 μ-loop2 
 slice-aggregate-put-line c = search needs
 
 put-line-requires : tie.Need-put-line-requires Inv-loop2 μ-loop2 Inv-loop3 μ-loop3 Inv-loop4 μ-loop4 Inv-loop5 μ-loop5 Inv-loop μ-loop
-put-line-requires c κs =
-    let t = question (c .before .before .before) _ refl in
-    (going-room _ _ _ (c .before .before .before .before .before .before .before .before .before .before .before .before .before .before .before .before .before .before .before .before .before .before .before .loop .inv .0) (c .before .before .before .before .before .before .before .before .before .before .before .before .before .before .before .before .before .before .before .before .before .before .loop-test .taken) t (c .before .before .before .before .before .before .before .before .before .before .before .before .before .before .before .before .before .before .before .before .before .before .before .before .before .before .before .before .before .before .pre .1), t .fits)
+put-line-requires c κs = let t = question (c .before .before .before) _ refl in (going-room _ _ _ (c .before .before .before .before .before .before .before .before .before .before .before .before .before .before .before .before .before .before .before .before .before .before .before .loop .inv .0) (c .before .before .before .before .before .before .before .before .before .before .before .before .before .before .before .before .before .before .before .before .before .before .loop-test .taken) t (c .before .before .before .before .before .before .before .before .before .before .before .before .before .before .before .before .before .before .before .before .before .before .before .before .before .before .before .before .before .before .pre .1), t .fits)
 
 add-to : tie.Need-add-to Inv-loop2 μ-loop2 Inv-loop3 μ-loop3 Inv-loop4 μ-loop4 Inv-loop5 μ-loop5 Inv-loop μ-loop
-add-to c =
+add-to c = 
     let l = c .before .before .before .before .before .before .before .before .before .before .before .before .before .before .before .before .before .before .before .before .before .before .before .before .before .before .loop in
     let t = question (c .before .before .before .before .before .before) _ refl in
     omega (arith, c .before .before .before .before .before .before .before .before .before .before .before .before .before .before .before .before .before .before .before .before .before .before .before .before .before .before .before .before .before .before .before .before .before .pre .0, l .inv .0 .few, l .inv .0 .inside, t .fits, c .before .before .before .before .before .before .found-line .kept .1 .1 .1 .1 .1 .1 .1 .0, l .inv .1)
 
+add-at : tie.Need-add-at Inv-loop2 μ-loop2 Inv-loop3 μ-loop3 Inv-loop4 μ-loop4 Inv-loop5 μ-loop5 Inv-loop μ-loop
+add-at c = omega (arith, c .before .before .before .before .before .before .before .before .before .before .before .before .before .before .before .before .before .before .before .before .before .before .before .before .before .before .loop .inv .0 .inside, c .before .before .before .before .before .before .before .before .before .before .before .before .before .before .before .before .before .before .before .before .before .before .before .before .before .before .before .before .before .before .before .before .before .pre .0)
+
 body-len-requires : tie.Need-body-len-requires Inv-loop2 μ-loop2 Inv-loop3 μ-loop3 Inv-loop4 μ-loop4 Inv-loop5 μ-loop5 Inv-loop μ-loop
 body-len-requires c κs = search needs
 
-add-at : tie.Need-add-at Inv-loop2 μ-loop2 Inv-loop3 μ-loop3 Inv-loop4 μ-loop4 Inv-loop5 μ-loop5 Inv-loop μ-loop
-add-at c = omega (arith, body-most (getD (now (c .before .before .before .before .before .before .before .before .before .before .before .before .before .before .before .before .before .before .before .before .before .before .before .before .before .before .before .before .before .before .before .before .before .before .args .tape)) (c .before .before .before .before .before .before .before .before .before .before .before .before .before .before .before .before .before .before .before .before .before .before .before .before .before .before .before .loop .at) 0), c .body-len .ensures, c .before .before .before .before .before .before .before .before .before .before .before .before .before .before .before .before .before .before .before .before .before .before .before .before .before .before .before .loop .inv .0 .inside, c .before .before .before .before .before .before .before .before .before .before .before .before .before .before .before .before .before .before .before .before .before .before .before .before .before .before .before .before .before .before .before .before .before .before .pre .0)
-
 add-at-2 : tie.Need-add-at-2 Inv-loop2 μ-loop2 Inv-loop3 μ-loop3 Inv-loop4 μ-loop4 Inv-loop5 μ-loop5 Inv-loop μ-loop
-add-at-2 c = omega (arith, body-most (getD (now (c .before .before .before .before .before .before .before .before .before .before .before .before .before .before .before .before .before .before .before .before .before .before .before .before .before .before .before .before .before .before .before .before .before .before .args .tape)) (c .before .before .before .before .before .before .before .before .before .before .before .before .before .before .before .before .before .before .before .before .before .before .before .before .before .before .before .loop .at) 0), c .body-len .ensures, c .before .before .before .before .before .before .before .before .before .before .before .before .before .before .before .before .before .before .before .before .before .before .before .before .before .before .before .loop .inv .0 .inside, c .before .before .before .before .before .before .before .before .before .before .before .before .before .before .before .before .before .before .before .before .before .before .before .before .before .before .before .before .before .before .before .before .before .before .pre .0)
+add-at-2 c = omega (arith, body-short (getD (now (c .before .before .before .before .before .before .before .before .before .before .before .before .before .before .before .before .before .before .before .before .before .before .before .before .before .before .before .before .before .before .before .before .before .before .args .tape)) (c .before .before .before .before .before .before .before .before .before .before .before .before .before .before .before .before .before .before .before .before .before .before .before .before .before .before .before .loop .at) 0), c .body-len .ensures, c .before .before .before .before .before .before .before .before .before .before .before .before .before .before .before .before .before .before .before .before .before .before .before .before .before .before .before .loop .inv .0 .inside, c .before .before .before .before .before .before .before .before .before .before .before .before .before .before .before .before .before .before .before .before .before .before .before .before .before .before .before .before .before .before .before .before .before .before .pre .0)
 
 loop-less : tie.Need-loop-less Inv-loop2 μ-loop2 Inv-loop3 μ-loop3 Inv-loop4 μ-loop4 Inv-loop5 μ-loop5 Inv-loop μ-loop
 loop-less c = let t = question (c .before .before .before .before .before .before .before) _ (c .body-len .ensures) in omega (arith, c .before .before .before .before .before .before .before .before .before .before .before .before .before .before .before .before .before .before .before .before .before .before .before .before .before .before .loop-test .taken, t .on)
 
 loop-again : tie.Need-loop-again Inv-loop2 μ-loop2 Inv-loop3 μ-loop3 Inv-loop4 μ-loop4 Inv-loop5 μ-loop5 Inv-loop μ-loop
-loop-again c =
+loop-again c = 
     let l = c .before .before .before .before .before .before .before .before .before .before .before .before .before .before .before .before .before .before .before .before .before .before .before .before .before .before .before .loop in
     let t = question (c .before .before .before .before .before .before .before) _ (c .body-len .ensures) in
     let p = c .before .before .before .put-line in
@@ -280,13 +261,13 @@ stop-of-requires : tie.Need-stop-of-requires Inv-loop2 μ-loop2 Inv-loop3 μ-loo
 stop-of-requires c κs = search needs
 
 loop4-holds : tie.Need-loop4-holds Inv-loop2 μ-loop2 Inv-loop3 μ-loop3 Inv-loop4 μ-loop4 Inv-loop5 μ-loop5 Inv-loop μ-loop
-loop4-holds c = (stop-at _ _ _ _ (c .stop-of .ensures .0) (c .stop-of .ensures .1) (c .before .before .before .look .ensures .order), le-refl _, refl)
+loop4-holds c = walking-first (c .before .before .before .before .before .before .before .before .before .before .before .before .before .before .loop .bands) (c .before .before .before .before .before .before .before .placing .result .admission .n) (long (c .before .before .before .before .before)) (c .before .before .before .before .before .before .before .placing .result .admission .ask) (c .before .before .before .look .result) (c .stop-of .result) (c .stop-of .ensures) (looked-order _ _ _ _ _ (c .before .before .before .look .ensures) .0)
 
 mul-if7 : tie.Need-mul-if7 Inv-loop2 μ-loop2 Inv-loop3 μ-loop3 Inv-loop4 μ-loop4 Inv-loop5 μ-loop5 Inv-loop μ-loop
-mul-if7 c = let h = end-in (c) in let k = places (c .before .before .before .before .before .before .before) .admits .few in omega (arith, c .before .loop4 .inv .1)
+mul-if7 c = let h = end-in (c) in let k = places (c .before .before .before .before .before .before .before) .admits .few in omega (arith, c .before .loop4 .inv .high)
 
 element-copy-out-if7 : tie.Need-element-copy-out-if7 Inv-loop2 μ-loop2 Inv-loop3 μ-loop3 Inv-loop4 μ-loop4 Inv-loop5 μ-loop5 Inv-loop μ-loop
-element-copy-out-if7 c = let h = end-in (c) in let k = places (c .before .before .before .before .before .before .before) .admits .few in omega (arith, c .before .loop4 .inv .1)
+element-copy-out-if7 c = let h = end-in (c) in let k = places (c .before .before .before .before .before .before .before) .admits .few in omega (arith, c .before .loop4 .inv .high, c .before .before .before .before .before .before .before .before .before .before .before .before .before .before .before .before .loop .inv .2)
 
 sub-e : tie.Need-sub-e Inv-loop2 μ-loop2 Inv-loop3 μ-loop3 Inv-loop4 μ-loop4 Inv-loop5 μ-loop5 Inv-loop μ-loop
 sub-e c = omega (arith, c .before .loop4-test .taken)
@@ -295,10 +276,7 @@ loop4-less : tie.Need-loop4-less Inv-loop2 μ-loop2 Inv-loop3 μ-loop3 Inv-loop4
 loop4-less c = omega (arith, c .before .loop4-test .taken)
 
 loop4-again : tie.Need-loop4-again Inv-loop2 μ-loop2 Inv-loop3 μ-loop3 Inv-loop4 μ-loop4 Inv-loop5 μ-loop5 Inv-loop μ-loop
-loop4-again c =
-    let l = c .before .before .loop4 in
-    let o = c .before .before .before .stop-of .ensures in
-    (omega (arith, c .before .loop4-test .taken), omega (arith, l .inv .1), walks (c .before .before .before .before .before .before .before .before .before .before .before .before .before .before .before .before .before .loop .bands) (c .before .before .before .before .before .before .before .before .before .before .placing .result .admission .n) (c .before .before .before .before .before .before .before .before .before .before .placing .result .admission .ask) (c .before .before .before .before .before .before .look .result) _ (l .e) (long (c .before .before .before .before .before .before .before .before)) (o .0) (o .1) (c .before .loop4-test .taken) (l .inv .1) (l .inv .2) (not-false _ (c .if7 .left)))
+loop4-again c = walking-next (c .before .before .before .before .before .before .before .before .before .before .before .before .before .before .before .before .before .loop .bands) (c .before .before .before .before .before .before .before .before .before .before .placing .result .admission .n) (long (c .before .before .before .before .before .before .before .before)) (c .before .before .before .before .before .before .before .before .before .before .placing .result .admission .ask) (c .before .before .before .before .before .before .look .result) (c .before .before .before .stop-of .result) (c .before .before .before .stop-of .ensures) (c .before .before .loop4 .e) (c .before .before .loop4 .inv) (c .before .loop4-test .taken) (not-false _ (c .if7 .left))
 
 last-of-requires-2 : tie.Need-last-of-requires-2 Inv-loop2 μ-loop2 Inv-loop3 μ-loop3 Inv-loop4 μ-loop4 Inv-loop5 μ-loop5 Inv-loop μ-loop
 last-of-requires-2 c κs = search needs
@@ -307,7 +285,7 @@ mul-last-2 : tie.Need-mul-last-2 Inv-loop2 μ-loop2 Inv-loop3 μ-loop3 Inv-loop4
 mul-last-2 c = omega (arith, places (c .before .before .before .before .before .before .before .before) .admits .few, c .last-of2 .ensures)
 
 array-copy-out-last-2 : tie.Need-array-copy-out-last-2 Inv-loop2 μ-loop2 Inv-loop3 μ-loop3 Inv-loop4 μ-loop4 Inv-loop5 μ-loop5 Inv-loop μ-loop
-array-copy-out-last-2 c = omega (arith, places (c .before .before .before .before .before .before .before .before) .admits .few, c .last-of2 .ensures)
+array-copy-out-last-2 c = omega (arith, places (c .before .before .before .before .before .before .before .before) .admits .few, c .last-of2 .ensures, c .before .before .before .before .before .before .before .before .before .before .before .before .before .before .before .before .before .loop .inv .2)
 
 placed-requires-2 : tie.Need-placed-requires-2 Inv-loop2 μ-loop2 Inv-loop3 μ-loop3 Inv-loop4 μ-loop4 Inv-loop5 μ-loop5 Inv-loop μ-loop
 placed-requires-2 c κs = search needs
@@ -331,7 +309,7 @@ enter-requires : tie.Need-enter-requires Inv-loop2 μ-loop2 Inv-loop3 μ-loop3 I
 enter-requires c κs = search needs
 
 loop5-holds : tie.Need-loop5-holds Inv-loop2 μ-loop2 Inv-loop3 μ-loop3 Inv-loop4 μ-loop4 Inv-loop5 μ-loop5 Inv-loop μ-loop
-loop5-holds c = (room (c .before) .0, le-refl _, tab-start _ _ _ _)
+loop5-holds c = writing-first _ _ _ (room (c .before) .0)
 
 sub-j : tie.Need-sub-j Inv-loop2 μ-loop2 Inv-loop3 μ-loop3 Inv-loop4 μ-loop4 Inv-loop5 μ-loop5 Inv-loop μ-loop
 sub-j c = omega (arith, c .if9 .taken)
@@ -340,36 +318,28 @@ source-requires : tie.Need-source-requires Inv-loop2 μ-loop2 Inv-loop3 μ-loop3
 source-requires c κs = search needs
 
 mul-b-2 : tie.Need-mul-b-2 Inv-loop2 μ-loop2 Inv-loop3 μ-loop3 Inv-loop4 μ-loop4 Inv-loop5 μ-loop5 Inv-loop μ-loop
-mul-b-2 c = let h = room (c .before .before .before .before .before) .1 in omega (arith, c .source .ensures .1, c .before .before .before .loop5 .inv .1, c .before .if9 .taken)
+mul-b-2 c = let h = room (c .before .before .before .before .before) .1 in omega (arith, c .source .ensures .1, c .before .before .before .loop5 .inv .high, c .before .if9 .taken)
 
 array-copy-out-b-2 : tie.Need-array-copy-out-b-2 Inv-loop2 μ-loop2 Inv-loop3 μ-loop3 Inv-loop4 μ-loop4 Inv-loop5 μ-loop5 Inv-loop μ-loop
-array-copy-out-b-2 c = let h = room (c .before .before .before .before .before) .1 in omega (arith, c .source .ensures .1, c .before .before .before .loop5 .inv .1, c .before .if9 .taken)
+array-copy-out-b-2 c = let h = room (c .before .before .before .before .before) .1 in omega (arith, c .source .ensures .1, c .before .before .before .loop5 .inv .high, c .before .before .before .loop5 .inv .made .long, c .before .before .before .before .before .before .before .before .before .before .before .before .before .before .before .before .before .before .before .before .before .before .before .before .before .before .before .before .before .loop .inv .2, c .before .if9 .taken)
 
 shaped-requires : tie.Need-shaped-requires Inv-loop2 μ-loop2 Inv-loop3 μ-loop3 Inv-loop4 μ-loop4 Inv-loop5 μ-loop5 Inv-loop μ-loop
 shaped-requires c κs = search needs
 
 mul-bands : tie.Need-mul-bands Inv-loop2 μ-loop2 Inv-loop3 μ-loop3 Inv-loop4 μ-loop4 Inv-loop5 μ-loop5 Inv-loop μ-loop
-mul-bands c = let h = room (c .before .before .before .before .before .before .before) .1 in omega (arith, c .before .before .before .before .before .loop5 .inv .1, c .before .before .before .if9 .taken)
+mul-bands c = let h = room (c .before .before .before .before .before .before .before) .1 in omega (arith, c .before .before .before .before .before .loop5 .inv .high, c .before .before .before .if9 .taken)
 
 array-set-from-bands : tie.Need-array-set-from-bands Inv-loop2 μ-loop2 Inv-loop3 μ-loop3 Inv-loop4 μ-loop4 Inv-loop5 μ-loop5 Inv-loop μ-loop
-array-set-from-bands c = let h = room (c .before .before .before .before .before .before .before) .1 in omega (arith, c .before .before .before .before .before .loop5 .inv .1, c .before .before .before .if9 .taken)
+array-set-from-bands c = let h = room (c .before .before .before .before .before .before .before) .1 in omega (arith, c .before .before .before .before .before .loop5 .inv .high, c .before .before .before .before .before .loop5 .inv .made .long, c .before .before .before .before .before .before .before .before .before .before .before .before .before .before .before .before .before .before .before .before .before .before .before .before .before .before .before .before .before .before .before .loop .inv .2, c .before .before .before .if9 .taken)
 
 loop5-less : tie.Need-loop5-less Inv-loop2 μ-loop2 Inv-loop3 μ-loop3 Inv-loop4 μ-loop4 Inv-loop5 μ-loop5 Inv-loop μ-loop
 loop5-less c = omega (arith, c .before .before .before .if9 .taken)
 
 loop5-again : tie.Need-loop5-again Inv-loop2 μ-loop2 Inv-loop3 μ-loop3 Inv-loop4 μ-loop4 Inv-loop5 μ-loop5 Inv-loop μ-loop
-loop5-again c =
+loop5-again c = 
     let l = c .before .before .before .before .before .loop5 in
-    let a = c .before .before .before .before .before .before .before .before .before .before .before .before .before .before .before .before .before .before .before .before .before .before .before .before .placing .result .admission .ask in
-    let p = c .before .before .before .before .before .before .before .before .enter .result .plan in
-    let k = c .before .before .source in
-    let w = c .before .before .before .if9 .taken in
     let h = room (c .before .before .before .before .before .before .before) .1 in
-    let z : l .j ≡ l .j - 1 + 1 = omega arith in (
-      omega (arith, w),
-      omega (arith, l .inv .1),
-      tab-next _ _ _ (l .bands) (l .j - 1) _ (omega (arith, h, c .before .before .before .before .before .before .before .before .before .before .before .before .before .before .before .before .before .before .before .before .before .before .before .before .before .before .before .before .before .before .before .loop .inv .2)) (omega (arith, w, l .inv .1)) (rw (sym (k .ensures .0)) (k .ensures .1)) (subst (λ (m : ℕ). Tab (shaped a p) (source p) (c .before .before .before .before .before .before .before .before .before .before .before .before .before .before .before .before .before .before .before .before .before .before .before .before .before .before .before .before .before .before .before .loop .bands) (l .bands) m (p .high)) z (l .inv .2)) (c .shaped .result) (c .shaped .ensures ∙ ap (λ (m : ℕ). shaped a p (l .j - 1) (getD (l .bands) m none)) (k .ensures .0)),
-    )
+    writing-next _ _ _ (l .bands) (l .j) (l .inv) (omega (arith, h, c .before .before .before .before .before .before .before .before .before .before .before .before .before .before .before .before .before .before .before .before .before .before .before .before .before .before .before .before .before .before .before .loop .inv .2)) (c .before .before .before .if9 .taken) _ (c .before .before .source .ensures) _ (c .shaped .ensures)
 
 mul-boxes : tie.Need-mul-boxes Inv-loop2 μ-loop2 Inv-loop3 μ-loop3 Inv-loop4 μ-loop4 Inv-loop5 μ-loop5 Inv-loop μ-loop
 mul-boxes c = omega (arith, room (c .before .before .before .before .before) .2)
@@ -387,30 +357,28 @@ slice-aggregate-put-line-2 : tie.Need-slice-aggregate-put-line-2 Inv-loop2 μ-lo
 slice-aggregate-put-line-2 c = search needs
 
 put-line-requires-2 : tie.Need-put-line-requires-2 Inv-loop2 μ-loop2 Inv-loop3 μ-loop3 Inv-loop4 μ-loop4 Inv-loop5 μ-loop5 Inv-loop μ-loop
-put-line-requires-2 c κs =
-    let t = placement (c .before .before .before) _ refl in
-    (going-room _ _ _ (c .before .before .before .before .before .before .before .before .before .before .before .before .before .before .before .before .before .before .before .before .before .before .before .before .before .before .before .before .before .loop .inv .0) (c .before .before .before .before .before .before .before .before .before .before .before .before .before .before .before .before .before .before .before .before .before .before .before .before .before .before .before .before .loop-test .taken) t (c .before .before .before .before .before .before .before .before .before .before .before .before .before .before .before .before .before .before .before .before .before .before .before .before .before .before .before .before .before .before .before .before .before .before .before .before .pre .1), t .fits)
+put-line-requires-2 c κs = let t = placement (c .before .before .before) _ refl in (going-room _ _ _ (c .before .before .before .before .before .before .before .before .before .before .before .before .before .before .before .before .before .before .before .before .before .before .before .before .before .before .before .before .before .loop .inv .0) (c .before .before .before .before .before .before .before .before .before .before .before .before .before .before .before .before .before .before .before .before .before .before .before .before .before .before .before .before .loop-test .taken) t (c .before .before .before .before .before .before .before .before .before .before .before .before .before .before .before .before .before .before .before .before .before .before .before .before .before .before .before .before .before .before .before .before .before .before .before .before .pre .1), t .fits)
 
 add-to-2 : tie.Need-add-to-2 Inv-loop2 μ-loop2 Inv-loop3 μ-loop3 Inv-loop4 μ-loop4 Inv-loop5 μ-loop5 Inv-loop μ-loop
-add-to-2 c =
+add-to-2 c = 
     let l = c .before .before .before .before .before .before .before .before .before .before .before .before .before .before .before .before .before .before .before .before .before .before .before .before .before .before .before .before .before .before .before .before .loop in
     let t = placement (c .before .before .before .before .before .before) _ refl in
     omega (arith, c .before .before .before .before .before .before .before .before .before .before .before .before .before .before .before .before .before .before .before .before .before .before .before .before .before .before .before .before .before .before .before .before .before .before .before .before .before .before .before .pre .0, l .inv .0 .few, l .inv .0 .inside, t .fits, c .before .before .before .before .before .before .place-line .kept .0, l .inv .1)
 
+add-at-3 : tie.Need-add-at-3 Inv-loop2 μ-loop2 Inv-loop3 μ-loop3 Inv-loop4 μ-loop4 Inv-loop5 μ-loop5 Inv-loop μ-loop
+add-at-3 c = omega (arith, c .before .before .before .before .before .before .before .before .before .before .before .before .before .before .before .before .before .before .before .before .before .before .before .before .before .before .before .before .before .before .before .before .loop .inv .0 .inside, c .before .before .before .before .before .before .before .before .before .before .before .before .before .before .before .before .before .before .before .before .before .before .before .before .before .before .before .before .before .before .before .before .before .before .before .before .before .before .before .pre .0)
+
 body-len-requires-2 : tie.Need-body-len-requires-2 Inv-loop2 μ-loop2 Inv-loop3 μ-loop3 Inv-loop4 μ-loop4 Inv-loop5 μ-loop5 Inv-loop μ-loop
 body-len-requires-2 c κs = search needs
 
-add-at-3 : tie.Need-add-at-3 Inv-loop2 μ-loop2 Inv-loop3 μ-loop3 Inv-loop4 μ-loop4 Inv-loop5 μ-loop5 Inv-loop μ-loop
-add-at-3 c = omega (arith, body-most (getD (now (c .before .before .before .before .before .before .before .before .before .before .before .before .before .before .before .before .before .before .before .before .before .before .before .before .before .before .before .before .before .before .before .before .before .before .before .before .before .before .before .before .args .tape)) (c .before .before .before .before .before .before .before .before .before .before .before .before .before .before .before .before .before .before .before .before .before .before .before .before .before .before .before .before .before .before .before .before .before .loop .at) 0), c .body-len2 .ensures, c .before .before .before .before .before .before .before .before .before .before .before .before .before .before .before .before .before .before .before .before .before .before .before .before .before .before .before .before .before .before .before .before .before .loop .inv .0 .inside, c .before .before .before .before .before .before .before .before .before .before .before .before .before .before .before .before .before .before .before .before .before .before .before .before .before .before .before .before .before .before .before .before .before .before .before .before .before .before .before .before .pre .0)
-
 add-at-4 : tie.Need-add-at-4 Inv-loop2 μ-loop2 Inv-loop3 μ-loop3 Inv-loop4 μ-loop4 Inv-loop5 μ-loop5 Inv-loop μ-loop
-add-at-4 c = omega (arith, body-most (getD (now (c .before .before .before .before .before .before .before .before .before .before .before .before .before .before .before .before .before .before .before .before .before .before .before .before .before .before .before .before .before .before .before .before .before .before .before .before .before .before .before .before .args .tape)) (c .before .before .before .before .before .before .before .before .before .before .before .before .before .before .before .before .before .before .before .before .before .before .before .before .before .before .before .before .before .before .before .before .before .loop .at) 0), c .body-len2 .ensures, c .before .before .before .before .before .before .before .before .before .before .before .before .before .before .before .before .before .before .before .before .before .before .before .before .before .before .before .before .before .before .before .before .before .loop .inv .0 .inside, c .before .before .before .before .before .before .before .before .before .before .before .before .before .before .before .before .before .before .before .before .before .before .before .before .before .before .before .before .before .before .before .before .before .before .before .before .before .before .before .before .pre .0)
+add-at-4 c = omega (arith, body-short (getD (now (c .before .before .before .before .before .before .before .before .before .before .before .before .before .before .before .before .before .before .before .before .before .before .before .before .before .before .before .before .before .before .before .before .before .before .before .before .before .before .before .before .args .tape)) (c .before .before .before .before .before .before .before .before .before .before .before .before .before .before .before .before .before .before .before .before .before .before .before .before .before .before .before .before .before .before .before .before .before .loop .at) 0), c .body-len2 .ensures, c .before .before .before .before .before .before .before .before .before .before .before .before .before .before .before .before .before .before .before .before .before .before .before .before .before .before .before .before .before .before .before .before .before .loop .inv .0 .inside, c .before .before .before .before .before .before .before .before .before .before .before .before .before .before .before .before .before .before .before .before .before .before .before .before .before .before .before .before .before .before .before .before .before .before .before .before .before .before .before .before .pre .0)
 
 loop-less-2 : tie.Need-loop-less-2 Inv-loop2 μ-loop2 Inv-loop3 μ-loop3 Inv-loop4 μ-loop4 Inv-loop5 μ-loop5 Inv-loop μ-loop
 loop-less-2 c = let t = placement (c .before .before .before .before .before .before .before) _ (c .body-len2 .ensures) in omega (arith, c .before .before .before .before .before .before .before .before .before .before .before .before .before .before .before .before .before .before .before .before .before .before .before .before .before .before .before .before .before .before .before .before .loop-test .taken, t .on)
 
 loop-again-2 : tie.Need-loop-again-2 Inv-loop2 μ-loop2 Inv-loop3 μ-loop3 Inv-loop4 μ-loop4 Inv-loop5 μ-loop5 Inv-loop μ-loop
-loop-again-2 c =
+loop-again-2 c = 
     let l = c .before .before .before .before .before .before .before .before .before .before .before .before .before .before .before .before .before .before .before .before .before .before .before .before .before .before .before .before .before .before .before .before .before .loop in
     let t = placement (c .before .before .before .before .before .before .before) _ (c .body-len2 .ensures) in
     let p = c .before .before .before .put-line2 in
@@ -427,12 +395,10 @@ slice-aggregate-put-line-3 : tie.Need-slice-aggregate-put-line-3 Inv-loop2 μ-lo
 slice-aggregate-put-line-3 c = search needs
 
 put-line-requires-3 : tie.Need-put-line-requires-3 Inv-loop2 μ-loop2 Inv-loop3 μ-loop3 Inv-loop4 μ-loop4 Inv-loop5 μ-loop5 Inv-loop μ-loop
-put-line-requires-3 c κs =
-    let t = other (c .before .before .before .before) in
-    (going-room _ _ _ (c .before .before .before .before .before .before .before .before .before .before .before .before .before .before .before .loop .inv .0) (c .before .before .before .before .before .before .before .before .before .before .before .before .before .before .loop-test .taken) t (c .before .before .before .before .before .before .before .before .before .before .before .before .before .before .before .before .before .before .before .before .before .before .pre .1), t .fits)
+put-line-requires-3 c κs = let t = other (c .before .before .before .before) in (going-room _ _ _ (c .before .before .before .before .before .before .before .before .before .before .before .before .before .before .before .loop .inv .0) (c .before .before .before .before .before .before .before .before .before .before .before .before .before .before .loop-test .taken) t (c .before .before .before .before .before .before .before .before .before .before .before .before .before .before .before .before .before .before .before .before .before .before .pre .1), t .fits)
 
 add-to-3 : tie.Need-add-to-3 Inv-loop2 μ-loop2 Inv-loop3 μ-loop3 Inv-loop4 μ-loop4 Inv-loop5 μ-loop5 Inv-loop μ-loop
-add-to-3 c =
+add-to-3 c = 
     let l = c .before .before .before .before .before .before .before .before .before .before .before .before .before .before .before .before .before .before .before .loop in
     let t = other (c .before .before .before .before .before .before .before .before) in
     omega (arith, c .before .before .before .before .before .before .before .before .before .before .before .before .before .before .before .before .before .before .before .before .before .before .before .before .before .before .pre .0, l .inv .0 .few, l .inv .0 .inside, t .fits, c .before .before .before .before .before .before .before .before .turn .kept .1 .1 .1 .1 .1 .1 .1 .0, l .inv .1)
@@ -441,7 +407,7 @@ loop-less-3 : tie.Need-loop-less-3 Inv-loop2 μ-loop2 Inv-loop3 μ-loop3 Inv-loo
 loop-less-3 c = let t = other (c .before .before .before .before .before .before .before .before) in omega (arith, c .before .before .before .before .before .before .before .before .before .before .before .before .before .before .before .before .before .before .loop-test .taken, t .on)
 
 loop-again-3 : tie.Need-loop-again-3 Inv-loop2 μ-loop2 Inv-loop3 μ-loop3 Inv-loop4 μ-loop4 Inv-loop5 μ-loop5 Inv-loop μ-loop
-loop-again-3 c =
+loop-again-3 c = 
     let l = c .before .before .before .before .before .before .before .before .before .before .before .before .before .before .before .before .before .before .before .loop in
     let t = other (c .before .before .before .before .before .before .before .before) in
     let p = c .before .before .before .put-line3 in
@@ -501,8 +467,8 @@ records-spec =
     slice-aggregate-put-line
     put-line-requires
     add-to
-    body-len-requires
     add-at
+    body-len-requires
     add-at-2
     loop-less
     loop-again
@@ -542,8 +508,8 @@ records-spec =
     slice-aggregate-put-line-2
     put-line-requires-2
     add-to-2
-    body-len-requires-2
     add-at-3
+    body-len-requires-2
     add-at-4
     loop-less-2
     loop-again-2
