@@ -15,7 +15,7 @@ use Rattle.float.specs.Numbers.{offset, plusZero}
 use Rattle.float.specs.Refuse.{clearOf, checkOf}
 use Rattle.float.specs.Page.{Page}
 use Rattle.float.specs.Clear.{cleared}
-use Rattle.float.specs.Slot.{active, activeAsked, hasActiveFloats, clearedThreshold}
+use Rattle.float.specs.Slot.{active, hasActiveFloats, clearedThreshold}
 
 -- ---- the checks: v, y, l, r .. are the numbers as they are read, k their check
 
@@ -31,8 +31,8 @@ module _ (p : Page) (clear : ℕ) {k : Check} (ek : k ≡ checkOf (ltb clear 4) 
 module _ (p : Page) (w : Float) {v : Float} {k : Check} (ev : v ≡ plusZero w) (ek : k ≡ checkOf true (offset v ∷ [])) where
   pub active-passed : {t : Bool} → k ≡ Check.Passed → t ≡ active (p .bands) v → YesNo.Answer t ≡ hasActiveFloats p w
   unfolding hasActiveFloats
-  active-passed e et = let q : checkOf true (offset (plusZero w) ∷ []) ≡ Check.Passed = cc in rw (q, activeAsked, hasActiveFloats) (cc)
+  active-passed e et = let q : checkOf true (offset (plusZero w) ∷ []) ≡ Check.Passed = cc in rw (q, hasActiveFloats) (cc)
 
   pub active-refused : {n : Refusal} → k ≡ Check.Refused n → YesNo.Refused n ≡ hasActiveFloats p w
   unfolding hasActiveFloats
-  active-refused {n} e = let q : checkOf true (offset (plusZero w) ∷ []) ≡ Check.Refused n = cc in rw (q, activeAsked, hasActiveFloats)
+  active-refused {n} e = let q : checkOf true (offset (plusZero w) ∷ []) ≡ Check.Refused n = cc in rw (q, hasActiveFloats)

@@ -41,11 +41,10 @@ unfoldable pub active : List Segment → Float → Bool
 active l y = ltb (firstBelow l 0 y) (length l)
 
 -- `has_active_floats`: refusals 2 and 3
-abbrev pub activeAsked : Page → Float → YesNo
-activeAsked p y = elim (checkOf true (offset y ∷ [])) [ Check.Passed ↦ YesNo.Answer (active (p .bands) y) | Check.Refused n ↦ YesNo.Refused n ]
-
 unfoldable pub hasActiveFloats : Page → Float → YesNo
-hasActiveFloats p y = activeAsked p (plusZero y)
+hasActiveFloats p x =
+    let y = plusZero x in
+    elim (checkOf true (offset y ∷ [])) [ Check.Passed ↦ YesNo.Answer (active (p .bands) y) | Check.Refused n ↦ YesNo.Refused n ]
 
 -- `cleared_threshold`: refusal 1
 unfoldable pub clearedThreshold : Page → ℕ → Threshold
@@ -153,21 +152,10 @@ pub record BfcCall : Type 0 where
 
 -- the same with plus zero for minus zero
 abbrev pub bfcCleaned : BfcCall → BfcCall
-bfcCleaned c = record {
-  minY = plusZero (c .minY);
-  left = plusZero (c .left);
-  right = plusZero (c .right);
-  leftMargin = plusZero (c .leftMargin);
-  rightMargin = plusZero (c .rightMargin);
-  direction = c .direction;
-  clear = c .clear;
-  after = c .after;
-}
+bfcCleaned c = record { minY = plusZero (c .minY); left = plusZero (c .left); right = plusZero (c .right); leftMargin = plusZero (c .leftMargin); rightMargin = plusZero (c .rightMargin); direction = c .direction; clear = c .clear; after = c .after }
 
 abbrev pub bfcCheck : BfcCall → Check
-bfcCheck c =
-    checkOf (ltb (c .direction) 2 && ltb (c .clear) 4)
-    (offset (c .minY) ∷ size (c .left) ∷ size (c .right) ∷ offset (c .leftMargin) ∷ offset (c .rightMargin) ∷ [])
+bfcCheck c = checkOf (ltb (c .direction) 2 && ltb (c .clear) 4) (offset (c .minY) ∷ size (c .left) ∷ size (c .right) ∷ offset (c .leftMargin) ∷ offset (c .rightMargin) ∷ [])
 
 -- a margin inset is containing inset plus margin
 abbrev pub bfcInsets : BfcCall → BfcInsets
