@@ -5,7 +5,7 @@ mod shims;
 #[cfg(has_taffy)]
 pub use shims::*;
 
-// taffy's float.rs unchanged as `float`, and with counters as `float_counted`
+// taffy's float.rs unchanged as `float`, with a reader of its band count as `float_read`, and with counters as `float_counted`
 include!(concat!(env!("OUT_DIR"), "/oracle.rs"));
 
 #[cfg(has_taffy)]
