@@ -13,6 +13,8 @@ pub mod answers;
 pub mod archive;
 #[cfg(has_taffy)]
 pub mod call;
+#[cfg(all(has_taffy, has_panel))]
+pub mod count;
 #[cfg(has_taffy)]
 pub mod driver;
 #[cfg(has_taffy)]
