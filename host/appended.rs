@@ -24,10 +24,6 @@ pub struct Band {
 }
 
 impl FloatContext {
-    pub fn band_count(&self) -> usize {
-        self.segments.len()
-    }
-
     pub fn bands(&self) -> Vec<Band> {
         self.segments
             .iter()

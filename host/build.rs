@@ -1,8 +1,17 @@
-//! Finds what the host compares: taffy's float.rs, unchanged and counted, and the archives of the export crates.
+//! Finds what the host compares: taffy's float.rs, unchanged, with a reader, and counted, and the archives of the export crates.
 //! Each is taken if it is there: cfg has_taffy, has_panel, has_probe.
 
 use std::path::{Path, PathBuf};
 use std::{env, fs};
+
+/// Handed to both copies: the page's band count.
+const READER: &str = "
+impl FloatContext {
+    pub fn band_count(&self) -> usize {
+        self.segments.len()
+    }
+}
+";
 
 /// Handed to the counted copy: the step count and the private parts of the page.
 const APPENDED: &str = include_str!("appended.rs");
@@ -21,7 +30,7 @@ fn main() {
     archive(root, "probe");
 }
 
-/// Writes oracle.rs, which names float.rs where it lies and the counted copy beside it.
+/// Writes oracle.rs, which names float.rs where it lies and the copies beside it.
 fn taffy(root: &Path) {
     let out = PathBuf::from(env::var("OUT_DIR").unwrap());
     let named = env::var_os("TAFFY_FLOAT_RS").map(PathBuf::from);
@@ -31,9 +40,10 @@ fn taffy(root: &Path) {
         println!("cargo:rerun-if-changed={}", place.display());
         let Ok(text) = fs::read_to_string(&place) else { continue };
         let unchanged = place.canonicalize().unwrap();
-        let copy = out.join("float_counted.rs");
+        let [read, copy] = ["float_read.rs", "float_counted.rs"].map(|name| out.join(name));
+        fs::write(&read, text.clone() + READER).unwrap();
         fs::write(&copy, counted(&text)).unwrap();
-        for (name, path) in [("float", unchanged), ("float_counted", copy)] {
+        for (name, path) in [("float", unchanged), ("float_read", read), ("float_counted", copy)] {
             modules += &format!("#[path = {path:?}]\n#[allow(dead_code, missing_docs)]\npub mod {name};\n");
         }
         println!("cargo:rustc-cfg=has_taffy");
@@ -67,7 +77,7 @@ fn counted(text: &str) -> String {
         (2, 1),
         "float.rs has other places where a start or an end is given up: it is not taffy 0.15.1"
     );
-    copy + APPENDED
+    copy + READER + APPENDED
 }
 
 /// Links target/staticlib/libNAME.a, where `rt staticlib NAME` left it.

@@ -27,5 +27,14 @@ if [ "$(uname -m)" != x86_64 ]; then
     export CARGO_TARGET_X86_64_UNKNOWN_LINUX_GNU_LINKER=x86_64-linux-gnu-gcc
     export CARGO_TARGET_X86_64_UNKNOWN_LINUX_GNU_RUNNER=qemu-x86_64
     export CARGO_TARGET_X86_64_UNKNOWN_LINUX_GNU_RUSTFLAGS="-C target-feature=+crt-static"
+    export HOST_EMULATED=yes
+fi
+# with qemu-user at hand the bench counts by a plugin of it; without the plugin it counts nothing
+if command -v qemu-x86_64 >/dev/null && command -v gcc >/dev/null; then
+    counter=$CARGO_TARGET_DIR/libcount.so
+    mkdir -p "$CARGO_TARGET_DIR"
+    if [ "$counter" -nt count.c ] || gcc -shared -fPIC -O2 -o "$counter" count.c; then
+        export HOST_COUNTER=$counter
+    fi
 fi
 exec cargo "$@"

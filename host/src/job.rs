@@ -1,12 +1,10 @@
-//! The job of `bulameki_run_tape` in plain Rust over the unchanged crate: what the bench measures the archive against.
+//! The job of `bulameki_run_tape` in plain Rust over the crate, as lean as one would write it: what the bench measures the archive against.
 //! The crate gives no step count: its lines have 0 there.
 
 use crate::call::{Call, Placement, BANDS, BOXES, REACH};
-use crate::float::{BfcSlot, ContentSlot, FloatContext, FloatIntrinsicWidthCalculator};
-use crate::judge::{decimal, Answer};
+use crate::float_read::{BfcSlot, ContentSlot, FloatContext, FloatIntrinsicWidthCalculator};
 use crate::tape::{record_at, Record, LONGEST};
-use crate::{AvailableSpace, Clear, FloatDirection};
-use std::cell::RefCell;
+use crate::{AvailableSpace, Clear, FloatDirection, Point};
 
 /// The crate's calculator hides its sums, which refusal 6 needs: they are kept beside it.
 struct Calculator {
@@ -17,78 +15,73 @@ struct Calculator {
 #[derive(Default)]
 struct Job {
     page: FloatContext,
-    width: f32,
-    accepted: Vec<Placement>,
     calculator: Option<Calculator>,
 }
 
-fn put(page: &mut FloatContext, placement: &Placement) -> (f32, f32) {
-    let Placement { size, min_y, insets, side, clear } = *placement;
-    let spot = page.place_floated_box(size, min_y, insets, side, clear);
-    (spot.x, spot.y)
-}
-
 impl Job {
-    /// The crate knows no limit and has no way back: a refused box is undone by placing the accepted ones anew.
-    fn place(&mut self, placement: Placement) -> Result<Answer, u8> {
-        if self.accepted.len() == BOXES {
+    /// The crate knows no limit and has no way back. So a page near a limit is copied before the placement, and put back if the box is
+    /// refused with 6 or 7; no other page is, and nothing is kept beside it.
+    fn place(&mut self, of: Placement) -> Result<Point<f32>, u8> {
+        if self.page.left_floats().len() + self.page.right_floats().len() == BOXES {
             return Err(5);
         }
-        let (x, y) = put(&mut self.page, &placement);
-        let refusal = self.too_far_or_full(&placement);
-        if refusal.is_some() {
-            self.page = FloatContext::new();
-            self.page.set_width(self.width);
-            for accepted in &self.accepted {
-                put(&mut self.page, accepted);
-            }
+        let before = self.near_a_limit(&of).then(|| self.page.clone());
+        let spot = self.page.place_floated_box(of.size, of.min_y, of.insets, of.side, of.clear);
+        let Some(before) = before else { return Ok(spot) };
+        let refusal = if spot.y + of.size.height > REACH {
+            6
+        } else if self.page.band_count() > BANDS {
+            7
         } else {
-            self.accepted.push(placement);
-        }
-        refusal.map_or(Ok(Answer::Placed { x, y, steps: 0 }), Err)
-    }
-
-    /// Refusals 6 and 7 of a box that stands on the page. The bands are counted by asking for the one past the limit.
-    fn too_far_or_full(&self, placement: &Placement) -> Option<u8> {
-        let boxes = match placement.side {
-            FloatDirection::Left => self.page.left_floats(),
-            FloatDirection::Right => self.page.right_floats(),
+            return Ok(spot);
         };
-        let placed = boxes.last()?;
-        if placed.y + placed.height > REACH || placed.x_inset + placed.width > REACH {
-            return Some(6);
-        }
-        let past = self.page.find_content_slot(f32::NEG_INFINITY, [0.0, 0.0], Clear::None, Some(BANDS - 1));
-        past.segment_id.map(|_| 7)
+        self.page = before;
+        Err(refusal)
     }
 
-    fn answer(&mut self, record: Record) -> Result<Answer, u8> {
-        Ok(match Call::of(&record)? {
+    /// A box adds two bands at most, and begins no lower than its own least and the lowest bottom allow. To its side it can't pass the
+    /// reach: beside a box it ends within the page, and elsewhere at its container's inset plus its width, each half the reach at most.
+    fn near_a_limit(&self, of: &Placement) -> bool {
+        let lowest = self.page.cleared_threshold(Clear::Both).map_or(of.min_y, |bottom| bottom.max(of.min_y));
+        self.page.band_count() + 2 > BANDS || lowest + of.size.height > REACH
+    }
+
+    /// Answers a record by its line, or refuses it and writes nothing.
+    fn answer(&mut self, record: &Record, lines: &mut Lines) -> Result<(), u8> {
+        match Call::of(record)? {
             Call::New => {
                 *self = Job::default();
-                Answer::Fresh
+                lines.letter(b'N');
             }
-            Call::Width(_) if !self.accepted.is_empty() => return Err(4),
+            Call::Width(_) if self.page.has_floats() => return Err(4),
             Call::Width(width) => {
-                self.width = width;
                 self.page.set_width(width);
-                Answer::Width
+                lines.letter(b'W');
             }
-            Call::Place(placement) => self.place(placement)?,
+            Call::Place(placement) => {
+                let Point { x, y } = self.place(placement)?;
+                lines.letter(b'P');
+                lines.numbers([x, y]);
+                lines.decimal(0);
+            }
             Call::Content { min_y, insets, clear, after } => {
-                let ContentSlot { segment_id: band, x, y, width, .. } =
+                let ContentSlot { segment_id, x, y, width, .. } =
                     self.page.find_content_slot(min_y, insets, clear, after);
-                Answer::Content { band, x, y, width }
+                lines.letter(b'C');
+                lines.band(segment_id);
+                lines.numbers([x, y, width]);
             }
             Call::Bfc { min_y, insets, margins, direction, clear, after } => {
-                let BfcSlot { segment_id: band, x, y, border_width: border, stretch_width: stretch } =
+                let BfcSlot { segment_id, x, y, border_width, stretch_width } =
                     self.page.find_bfc_slot(min_y, insets, margins, direction, clear, after);
-                Answer::Bfc { band, x, y, border, stretch }
+                lines.letter(b'B');
+                lines.band(segment_id);
+                lines.numbers([x, y, border_width, stretch_width]);
             }
             Call::Calc(space) => {
                 let sums = (space != AvailableSpace::MinContent).then_some([0.0, 0.0]);
                 self.calculator = Some(Calculator { inner: FloatIntrinsicWidthCalculator::new(space), sums });
-                Answer::Started
+                lines.letter(b'S');
             }
             Call::Add { width, side, clear } => {
                 let calculator = self.calculator.as_mut().ok_or(8)?;
@@ -96,10 +89,15 @@ impl Job {
                     *sums = added(*sums, width, side, clear).ok_or(6)?;
                 }
                 calculator.inner.add_float(width, side, clear);
-                Answer::Added
+                lines.letter(b'A');
             }
-            Call::Result => Answer::Intrinsic(self.calculator.as_ref().ok_or(8)?.inner.result()),
-        })
+            Call::Result => {
+                let width = self.calculator.as_ref().ok_or(8)?.inner.result();
+                lines.letter(b'I');
+                lines.numbers([width]);
+            }
+        }
+        Ok(())
     }
 }
 
@@ -115,39 +113,92 @@ fn added([left, right]: [f32; 2], width: f32, side: FloatDirection, clear: Clear
     (sums[0] + sums[1] <= REACH).then_some(sums)
 }
 
-/// Writes all lines of a tape.
-fn print(tape: &[u8], lines: &mut Vec<u8>) {
-    if tape.len() > LONGEST {
-        lines.extend(b"L\n");
-        return;
+/// The room lent, and how far the lines reach in it. Where they pass its end nothing more is written, and they are counted on.
+struct Lines<'a> {
+    room: &'a mut [u8],
+    length: usize,
+}
+
+impl Lines<'_> {
+    /// The next bytes of the room, if it has so many.
+    #[inline]
+    fn next(&mut self, count: usize) -> Option<&mut [u8]> {
+        let from = self.length;
+        self.length += count;
+        self.room.get_mut(from..self.length)
     }
-    let mut job = Job::default();
-    let mut at = 0;
-    while let Some((record, next)) = record_at(tape, at) {
-        job.answer(record).unwrap_or_else(Answer::Refused).write(lines);
-        at = next;
+
+    #[inline]
+    fn letter(&mut self, letter: u8) {
+        if let Some(to) = self.next(1) {
+            to[0] = letter;
+        }
     }
-    if at < tape.len() {
-        lines.push(b'T');
-        decimal(lines, at);
-        lines.push(b'\n');
+
+    /// A blank and eight digits for each number.
+    #[inline]
+    fn numbers<const N: usize>(&mut self, numbers: [f32; N]) {
+        let Some(to) = self.next(9 * N) else { return };
+        for (to, number) in to.chunks_exact_mut(9).zip(numbers) {
+            let digit = |place: u32| b"0123456789ABCDEF"[(number.to_bits() >> (4 * place)) as usize & 15];
+            to.copy_from_slice(&[b' ', digit(7), digit(6), digit(5), digit(4), digit(3), digit(2), digit(1), digit(0)]);
+        }
+    }
+
+    /// A blank and the number.
+    #[inline]
+    fn decimal(&mut self, number: u32) {
+        let digits = number.checked_ilog10().unwrap_or(0) as usize + 1;
+        let Some(to) = self.next(1 + digits) else { return };
+        let mut rest = number;
+        for place in to[1..].iter_mut().rev() {
+            *place = b'0' + (rest % 10) as u8;
+            rest /= 10;
+        }
+        to[0] = b' ';
+    }
+
+    #[inline]
+    fn band(&mut self, band: Option<usize>) {
+        match band {
+            Some(band) => self.decimal(band as u32),
+            None => {
+                if let Some(to) = self.next(2) {
+                    to.copy_from_slice(b" -");
+                }
+            }
+        }
     }
 }
 
-thread_local! {
-    /// The lines stand here until it is known that the room is enough; kept, so that it need not grow in every run.
-    static LINES: RefCell<Vec<u8>> = const { RefCell::new(Vec::new()) };
-}
-
-/// Runs a tape into the room lent: how many bytes were written, or -13. An `archive::Runner`.
+/// Runs a tape into the room lent: how many bytes were written, or -13, and then part of the lines may stand in it. An `archive::Runner`.
 pub fn run(tape: &[u8], room: &mut [u8]) -> i64 {
-    LINES.with_borrow_mut(|lines| {
-        lines.clear();
-        print(tape, lines);
-        let Some(lent) = room.get_mut(..lines.len()) else { return -13 };
-        lent.copy_from_slice(lines);
-        lines.len() as i64
-    })
+    let mut lines = Lines { room, length: 0 };
+    if tape.len() > LONGEST {
+        lines.letter(b'L');
+        lines.letter(b'\n');
+    } else {
+        let mut job = Job::default();
+        let mut at = 0;
+        while let Some((record, next)) = record_at(tape, at) {
+            if let Err(refusal) = job.answer(&record, &mut lines) {
+                lines.letter(b'R');
+                lines.decimal(refusal.into());
+            }
+            lines.letter(b'\n');
+            at = next;
+        }
+        if at < tape.len() {
+            lines.letter(b'T');
+            lines.decimal(at as u32);
+            lines.letter(b'\n');
+        }
+    }
+    if lines.length <= lines.room.len() {
+        lines.length as i64
+    } else {
+        -13
+    }
 }
 
 /// Lines without what the crate does not give: the step count at the end of each P.

@@ -188,7 +188,7 @@ fn hex<const N: usize>(to: &mut Vec<u8>, numbers: [f32; N]) {
 }
 
 /// A blank and the number.
-pub(crate) fn decimal(to: &mut Vec<u8>, number: usize) {
+fn decimal(to: &mut Vec<u8>, number: usize) {
     let mut digits = [b' '; 21];
     let mut first = digits.len();
     let mut rest = number;

@@ -5,7 +5,7 @@ mod shims;
 #[cfg(has_taffy)]
 pub use shims::*;
 
-// taffy's float.rs unchanged as `float`, and with counters as `float_counted`
+// taffy's float.rs unchanged as `float`, with a reader of its band count as `float_read`, and with counters as `float_counted`
 include!(concat!(env!("OUT_DIR"), "/oracle.rs"));
 
 #[cfg(has_taffy)]
@@ -13,6 +13,8 @@ pub mod answers;
 pub mod archive;
 #[cfg(has_taffy)]
 pub mod call;
+#[cfg(all(has_taffy, has_panel))]
+pub mod count;
 #[cfg(has_taffy)]
 pub mod driver;
 #[cfg(has_taffy)]

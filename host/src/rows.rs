@@ -1,10 +1,13 @@
 //! What is measured, row by row: tapes with some records, and the same tapes without them. The difference is what those records cost.
 
 use crate::answers;
+use crate::archive::{self, Runner};
+use crate::call::{BANDS, REACH};
 use crate::grouped;
-use crate::judge::{Answer, Judge};
+use crate::judge::{self, Answer, Judge};
 use crate::random::Random;
 use crate::tape::{bytes, Record, LONGEST, NONE};
+use std::hint::black_box;
 
 /// The numbers of boxes at which pages are measured.
 pub const SIZES: [usize; 4] = [4, 16, 32, 64];
@@ -13,12 +16,30 @@ pub const SIZES: [usize; 4] = [4, 16, 32, 64];
 const PAGES: usize = 8;
 const RECORDS: usize = 256;
 
+/// A tape, and how much room is lent to its run.
+pub struct Run {
+    pub tape: Vec<u8>,
+    pub room: usize,
+}
+
+impl Run {
+    /// In a room that is surely enough, so that one pass is.
+    fn sure(tape: Vec<u8>) -> Self {
+        Run { room: archive::room(&tape), tape }
+    }
+
+    /// In a room without a byte to spare: that it is enough shows only when the lines are known.
+    fn exact(tape: Vec<u8>) -> Self {
+        Run { room: judge::lines(&tape).len(), tape }
+    }
+}
+
 pub struct Row {
     pub name: String,
-    /// How many records more stand on `with`; 1 where whole tapes are measured, and `without` is none.
+    /// How many times more the thing stands on `with`; 1 where whole tapes are measured, and `without` is none.
     pub records: usize,
-    pub with: Vec<Vec<u8>>,
-    pub without: Vec<Vec<u8>>,
+    pub with: Vec<Run>,
+    pub without: Vec<Run>,
 }
 
 /// A page in the manner of a fault page: pictures on both sides, further down as the text goes on, their edges on a grid of 4.
@@ -87,48 +108,85 @@ fn asked(number: usize, boxes: usize) -> Vec<u8> {
     bytes(&[&page[..], &questions(&page, 2 * boxes, |number| number % 2 == 1)].concat())
 }
 
-/// The last quarter of the boxes of each page; the smaller the pages, the more of them.
-fn placements(boxes: usize) -> Row {
+/// The same with the questions between the placements: two after each box, on the page as it is then.
+fn asked_between(number: usize, boxes: usize) -> Vec<Record> {
+    let page = page(number, boxes);
+    let mut records = page[..2].to_vec();
+    let mut random = Random(boxes as u64);
+    for placed in 3..=page.len() {
+        records.push(page[placed - 1]);
+        let depth = depth(&page[..placed]);
+        records.extend([false, true].map(|bfc| question(&mut random, depth, bfc)));
+    }
+    records
+}
+
+/// The last quarter of the boxes of each page, and what comes with each of them; the smaller the pages, the more of them.
+fn last_quarter(name: &str, boxes: usize, page: impl Fn(usize, usize) -> Vec<Record>) -> Row {
     let pages = PAGES * SIZES[3] / boxes;
     let tape = |boxes: usize| bytes(&(0..pages).flat_map(|number| page(number, boxes)).collect::<Vec<Record>>());
     let kept = boxes * 3 / 4;
     Row {
-        name: format!("a placement, page of {boxes}"),
+        name: format!("{name}, page of {boxes}"),
         records: pages * (boxes - kept),
-        with: vec![tape(boxes)],
-        without: vec![tape(kept)],
+        with: vec![Run::sure(tape(boxes))],
+        without: vec![Run::sure(tape(kept))],
     }
 }
 
 /// Some records more on each page.
-fn more(name: &str, boxes: usize, records: impl Fn(&[Record]) -> Vec<Record>) -> Row {
+fn more(
+    name: &str,
+    boxes: usize,
+    page: impl Fn(usize) -> Vec<Record>,
+    records: impl Fn(&[Record]) -> Vec<Record>,
+) -> Row {
     let (mut with, mut without) = (Vec::new(), Vec::new());
     for number in 0..PAGES {
-        let page = page(number, boxes);
+        let page = page(number);
         without.extend(&page);
         with.extend(page.iter().chain(&records(&page)));
     }
     let records = with.len() - without.len();
-    Row { name: format!("{name}, page of {boxes}"), records, with: vec![bytes(&with)], without: vec![bytes(&without)] }
+    let [with, without] = [with, without].map(|records| vec![Run::sure(bytes(&records))]);
+    Row { name: format!("{name}, page of {boxes}"), records, with, without }
 }
 
 fn slots(name: &str, boxes: usize, bfc: bool) -> Row {
-    more(name, boxes, |page| questions(page, RECORDS / PAGES, |_| bfc))
+    more(name, boxes, |number| page(number, boxes), |page| questions(page, RECORDS / PAGES, |_| bfc))
 }
 
-/// What a record costs that is read, refused at its first byte, and told.
-fn refused(boxes: usize) -> Row {
-    let unknown = Record::Place { side: 2, clear: 0, width: 8.0, height: 8.0, min_y: 0.0, insets: [0.0, 0.0] };
-    more("a placement refused with 1", boxes, |_| vec![unknown; RECORDS / PAGES])
+/// What a placement costs that is read, refused with this number, and told.
+fn refused(number: u8, boxes: usize, page: impl Fn(usize) -> Vec<Record>, record: Record) -> Row {
+    more(&format!("a placement refused with {number}"), boxes, page, |page| {
+        let mut judge = Judge::default();
+        let answer = page.iter().chain([&record]).map(|record| judge.answer(record)).last();
+        assert_eq!(answer, Some(Answer::Refused(number)));
+        vec![record; RECORDS / PAGES]
+    })
+}
+
+/// An unknown side on a full page; a box below one that ends at the reach; a box within a band where all bands are in use.
+fn refusals() -> [Row; 3] {
+    let at = |side, clear, min_y, height| Record::Place { side, clear, width: 8.0, height, min_y, insets: [0.0, 0.0] };
+    let (half, full) = (SIZES[2], SIZES[3]);
+    let deep = |number| [page(number, half - 1), vec![at(0, 0, REACH / 2.0, REACH / 2.0)]].concat();
+    let apart = (0..BANDS / 2).map(|number| at(0, 0, 8.0 * number as f32, 4.0));
+    let crowded: Vec<Record> = [Record::New, Record::Width(320.0)].into_iter().chain(apart).collect();
+    [
+        refused(1, full, |number| page(number, full), at(2, 0, 0.0, 8.0)),
+        refused(6, half, deep, at(0, 3, 0.0, 8.0)),
+        refused(7, BANDS / 2, |_| crowded.clone(), at(1, 0, 8.0 * (BANDS / 2 - 1) as f32 + 1.0, 2.0)),
+    ]
 }
 
 fn repeated(name: &str, first: &[Record], again: &[Record]) -> Row {
-    let tape = |times: usize| vec![bytes(&[first, &again.repeat(times)].concat())];
+    let tape = |times: usize| vec![Run::sure(bytes(&[first, &again.repeat(times)].concat()))];
     Row { name: name.into(), records: RECORDS, with: tape(2 * RECORDS), without: tape(RECORDS) }
 }
 
-fn whole(name: String, tapes: Vec<Vec<u8>>) -> Row {
-    Row { name, records: 1, with: tapes, without: vec![] }
+fn whole(name: String, runs: Vec<Run>) -> Row {
+    Row { name: format!("whole job: {name}"), records: 1, with: runs, without: vec![] }
 }
 
 /// Pages of 64 with questions, as many as a tape takes.
@@ -145,19 +203,38 @@ fn longest() -> Vec<u8> {
 }
 
 pub fn rows() -> Vec<Row> {
-    let mut rows: Vec<Row> = SIZES.iter().map(|boxes| placements(*boxes)).collect();
+    let full = SIZES[3];
+    let mut rows: Vec<Row> = SIZES.iter().map(|boxes| last_quarter("a placement", *boxes, page)).collect();
+    rows.push(last_quarter("a placement and two questions", full, asked_between));
     rows.extend(SIZES.iter().map(|boxes| slots("a content question", *boxes, false)));
     rows.extend(SIZES.iter().map(|boxes| slots("a BFC question", *boxes, true)));
-    rows.push(refused(SIZES[3]));
+    rows.extend(refusals());
     rows.push(repeated("a fresh page and its width", &[], &[Record::New, Record::Width(320.0)]));
     let added = Record::Add { width: 8.0, side: 0, clear: 1 };
     rows.push(repeated("a width added to a calculator", &[Record::Calc { mode: 2, number: 0.0 }], &[added]));
     for boxes in SIZES {
-        rows.push(whole(format!("whole job: a page of {boxes}, {} questions", 2 * boxes), vec![asked(0, boxes)]));
+        let name = format!("a page of {boxes}, {} questions", 2 * boxes);
+        rows.push(whole(name, vec![Run::sure(asked(0, boxes))]));
     }
+    let between = format!("a page of {full}, two questions after each box");
+    rows.push(whole(between, vec![Run::sure(bytes(&asked_between(0, full)))]));
+    let exact = format!("a page of {full}, {} questions, no room to spare", 2 * full);
+    rows.push(whole(exact, vec![Run::exact(asked(0, full))]));
     let longest = longest();
-    rows.push(whole(format!("whole job: pages of 64, {} bytes of tape", grouped(longest.len())), vec![longest]));
-    let stored: Vec<Vec<u8>> = answers::sample().into_iter().step_by(16).map(|(tape, _)| tape).collect();
-    rows.push(whole(format!("whole job: {} of the stored tapes, a run each", stored.len()), stored));
+    rows.push(whole(format!("pages of {full}, {} bytes of tape", grouped(longest.len())), vec![Run::sure(longest)]));
+    let stored: Vec<Run> = answers::sample().into_iter().step_by(16).map(|(tape, _)| Run::sure(tape)).collect();
+    rows.push(whole(format!("{} of the stored tapes, a run each", stored.len()), stored));
     rows
+}
+
+/// Runs each tape in its room; the room lent is enough for the largest.
+pub fn all(run: Runner, runs: &[Run], room: &mut [u8]) {
+    for Run { tape, room: lent } in runs {
+        black_box(run(black_box(tape), &mut room[..*lent]));
+    }
+}
+
+/// Room for each of the runs.
+pub fn room(runs: &[Run]) -> Vec<u8> {
+    vec![0; runs.iter().map(|run| run.room).max().unwrap_or(0)]
 }

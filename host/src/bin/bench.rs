@@ -1,16 +1,15 @@
-//! Times the archive beside the same job over the unchanged crate, row by row: host/x86-host.sh run --release --offline --locked --bin bench
-//! With --markdown it prints what stands in docs/SPEED.md between `<!-- table -->` and `<!-- /table -->`: the times and, where valgrind
-//! is on the path, the instructions; then the stack and the code. `--counted` is how it runs itself under valgrind.
+//! Times the archive beside the same job over the crate, row by row: host/x86-host.sh run --release --offline --locked --bin bench
+//! With --markdown it prints what stands in docs/SPEED.md: the times, the instructions and the bytes stored, as far as they can be known
+//! here; then the stack and the code. `--counted` is how it runs itself to be counted.
 
 #[cfg(all(has_taffy, has_panel))]
 mod run {
     use host::archive::{self, Runner};
-    use host::rows::{self, Row, SIZES};
+    use host::count::{self, sides, Counts};
+    use host::rows::{self, Row, Run, SIZES};
     use host::tape::bytes;
     use host::{answers, grouped, job};
-    use std::hint::black_box;
-    use std::path::Path;
-    use std::process::{Command, Stdio};
+    use std::process::Command;
     use std::time::{Duration, Instant};
 
     /// How long one side runs before the other has its turn: a load on the machine lasts longer, and so hits both alike.
@@ -20,34 +19,25 @@ mod run {
     const SPELL: Duration = Duration::from_millis(60);
     const SPELLS: usize = 20;
 
-    /// Room for the lines of each of the tapes.
-    fn room(tapes: &[Vec<u8>]) -> Vec<u8> {
-        vec![0; tapes.iter().map(|tape| archive::room(tape)).max().unwrap_or(0)]
-    }
-
-    fn sides() -> [Runner; 2] {
-        [archive::panel().expect("linked"), job::run]
-    }
-
-    /// Both sides do the same job on all these tapes.
-    fn agree<'a>(tapes: impl Iterator<Item = &'a Vec<u8>>) {
-        for tape in tapes {
-            let [by_archive, by_crate] = sides().map(|run| job::without_steps(&archive::answered(run, tape)));
+    /// Both sides do the same job on all these tapes, each in a room to spare, in one that is just enough, and in one a byte too short.
+    fn agree<'a>(runs: impl Iterator<Item = &'a Run>) {
+        for Run { tape, .. } in runs {
+            let [by_archive, by_crate] = sides().map(|run| {
+                let lines = archive::answered(run, tape);
+                let mut room = vec![0; lines.len()];
+                assert!(run(tape, &mut room) == lines.len() as i64 && room == lines, "in a room just enough");
+                assert!(lines.is_empty() || run(tape, &mut room[1..]) == -13, "in a room a byte too short");
+                job::without_steps(&lines)
+            });
             assert!(by_archive == by_crate, "archive and crate differ on\n{}", host::tape::text(tape));
         }
     }
 
-    fn all(run: Runner, tapes: &[Vec<u8>], room: &mut [u8]) {
-        for tape in tapes {
-            black_box(run(black_box(tape), room));
-        }
-    }
-
     /// Nanoseconds of one run of the tapes, over so many runs.
-    fn timed(run: Runner, tapes: &[Vec<u8>], room: &mut [u8], times: u32) -> f64 {
+    fn timed(run: Runner, runs: &[Run], room: &mut [u8], times: u32) -> f64 {
         let started = Instant::now();
         for _ in 0..times {
-            all(run, tapes, room);
+            rows::all(run, runs, room);
         }
         started.elapsed().as_nanos() as f64 / f64::from(times)
     }
@@ -84,7 +74,7 @@ mod run {
     fn measure(rows: &[Row]) -> Vec<[[f64; 2]; 2]> {
         let fresh = || [(); 2].map(|()| [(); 2].map(|()| Seen { times: 1, figures: Vec::new() }));
         let mut seen: Vec<_> = rows.iter().map(|_| fresh()).collect();
-        let mut rooms: Vec<_> = rows.iter().map(|row| room(&row.with)).collect();
+        let mut rooms: Vec<_> = rows.iter().map(|row| rows::room(&row.with)).collect();
         for _ in 0..SPELLS {
             for ((row, seen), room) in rows.iter().zip(&mut seen).zip(&mut rooms) {
                 spell(row, seen, room);
@@ -99,61 +89,6 @@ mod run {
         rows.iter().zip(seen).map(each).collect()
     }
 
-    /// What valgrind counts; it knows the function by this name.
-    #[no_mangle]
-    #[inline(never)]
-    extern "C" fn bench_counted(side: usize, tapes: &Vec<Vec<u8>>, room: &mut Vec<u8>) {
-        all(sides()[side], tapes, room);
-    }
-
-    /// Runs every row once on each side, with and without its records.
-    pub fn counted() {
-        for row in rows::rows() {
-            for side in [0, 1] {
-                for tapes in [&row.with, &row.without] {
-                    let mut room = room(tapes);
-                    all(sides()[side], tapes, &mut room);
-                    bench_counted(side, tapes, &mut room);
-                }
-            }
-        }
-    }
-
-    /// For each row and side the instructions of one record, if valgrind can be run.
-    fn instructions(rows: &[Row]) -> Option<Vec<[f64; 2]>> {
-        let folder = std::env::temp_dir().join(format!("bulameki-bench-{}", std::process::id()));
-        std::fs::create_dir_all(&folder).ok()?;
-        let counts = callgrind(&folder, 4 * rows.len());
-        let _ = std::fs::remove_dir_all(&folder);
-        let counts = counts?;
-        let each = |(at, row): (usize, &Row)| {
-            [0, 2].map(|side| (counts[4 * at + side] - counts[4 * at + side + 1]) / row.records as f64)
-        };
-        Some(rows.iter().enumerate().map(each).collect())
-    }
-
-    /// One total for each time that `bench_counted` returned.
-    fn callgrind(folder: &Path, expected: usize) -> Option<Vec<f64>> {
-        let out = folder.join("out");
-        let status = Command::new("valgrind")
-            .args(["--tool=callgrind", "--toggle-collect=bench_counted", "--dump-after=bench_counted"])
-            .arg(format!("--callgrind-out-file={}", out.display()))
-            .arg(std::env::current_exe().ok()?)
-            .arg("--counted")
-            .stdout(Stdio::null())
-            .stderr(Stdio::null())
-            .status();
-        if !status.is_ok_and(|status| status.success()) {
-            host::say("valgrind is not at hand: instructions are not counted");
-            return None;
-        }
-        let total = |number: usize| {
-            let text = std::fs::read_to_string(folder.join(format!("out.{number}"))).ok()?;
-            text.lines().find_map(|line| line.strip_prefix("totals: ")?.trim().parse().ok())
-        };
-        (1..=expected).map(total).collect()
-    }
-
     fn figure(x: f64) -> String {
         if x < 99.95 {
             format!("{x:.1}")
@@ -162,17 +97,27 @@ mod run {
         }
     }
 
-    fn cells([archive, unchanged]: [f64; 2]) -> String {
-        format!("{} | {} | {:.1}", figure(archive), figure(unchanged), archive / unchanged)
+    /// What each side takes, where it is known.
+    fn both(sides: Option<[f64; 2]>) -> String {
+        sides.map_or("- | -".into(), |sides| sides.map(figure).join(" | "))
+    }
+
+    /// And how many times the crate's the archive's is.
+    fn compared(sides: Option<[f64; 2]>) -> String {
+        let times = sides.map_or("-".into(), |[archive, of_crate]| format!("{:.1}", archive / of_crate));
+        both(sides) + " | " + &times
     }
 
     fn speed(rows: &[Row]) {
-        let counts = instructions(rows);
-        println!("| | archive, ns | crate, ns | times | archive, instructions | crate, instructions | times |");
-        println!("|---|--:|--:|--:|--:|--:|--:|");
-        for (at, (row, times)) in rows.iter().zip(measure(rows)).enumerate() {
-            let counted = counts.as_ref().map_or("- | - | -".into(), |counts| cells(counts[at]));
-            println!("| {} | {} | {counted} |", row.name, cells(times.map(|side| side[0])));
+        let Counts { instructions, stored } = count::counts(rows);
+        let times = (!count::emulated()).then(|| measure(rows));
+        print!("| | archive, ns | crate, ns | times | archive, instructions | crate, instructions | times ");
+        println!("| archive, bytes stored | crate, bytes stored |");
+        println!("|---|--:|--:|--:|--:|--:|--:|--:|--:|");
+        for (at, row) in rows.iter().enumerate() {
+            let times = compared(times.as_ref().map(|times| times[at].map(|side| side[0])));
+            let [instructions, stored] = [&instructions, &stored].map(|all| all.as_ref().map(|all| all[at]));
+            println!("| {} | {times} | {} | {} |", row.name, compared(instructions), both(stored));
         }
     }
 
@@ -198,10 +143,10 @@ mod run {
 
     fn text(rows: &[Row]) {
         for (row, times) in rows.iter().zip(measure(rows)) {
-            let [archive, unchanged] =
+            let [archive, of_crate] =
                 times.map(|[lowest, median]| format!("{} ns (median {})", figure(lowest), figure(median)));
             let ratios = [0, 1].map(|at| times[0][at] / times[1][at]);
-            println!("{}: archive {archive}, crate {unchanged}, {:.1} times ({:.1})", row.name, ratios[0], ratios[1]);
+            println!("{}: archive {archive}, crate {of_crate}, {:.1} times ({:.1})", row.name, ratios[0], ratios[1]);
         }
     }
 
@@ -212,6 +157,8 @@ mod run {
             speed(&rows);
             println!();
             memory();
+        } else if count::emulated() {
+            host::say("under an emulator times say nothing: bench --markdown counts instructions");
         } else {
             text(&rows);
         }
@@ -223,7 +170,7 @@ fn main() -> std::process::ExitCode {
     match std::env::args().nth(1).as_deref() {
         None => run::bench(false),
         Some("--markdown") => run::bench(true),
-        Some("--counted") => run::counted(),
+        Some("--counted") => host::count::counted(),
         Some(other) => {
             host::say(&format!("{other} is not known: bench [--markdown]"));
             return std::process::ExitCode::FAILURE;

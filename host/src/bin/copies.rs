@@ -1,5 +1,5 @@
-//! Counts what the archive copies in each call, by a memcpy that counts, and what a page takes on both sides. It prints what stands in
-//! docs/SPEED.md between `<!-- copies -->` and `<!-- /copies -->`: host/x86-host.sh run --release --offline --locked --bin copies
+//! Counts what the archive copies in each call, by a memcpy that counts, and what a page takes on both sides, as it stands in
+//! docs/SPEED.md: host/x86-host.sh run --release --offline --locked --bin copies
 //! It is a binary of its own so that the bench runs with libc's memcpy.
 
 #[cfg(all(has_taffy, has_panel))]
@@ -8,7 +8,7 @@ mod run {
     use host::call::Call;
     use host::float::FloatContext;
     use host::grouped;
-    use host::rows::{self, SIZES};
+    use host::rows::{self, Run, SIZES};
     use host::tape::Record;
     use std::alloc::{GlobalAlloc, Layout, System};
     use std::arch::asm;
@@ -48,14 +48,12 @@ mod run {
     #[global_allocator]
     static ALLOCATOR: Counting = Counting;
 
-    /// By size the copies that the archive makes on some tapes.
-    fn counted(tapes: &[Vec<u8>]) -> Vec<u64> {
+    /// By size the copies that the archive makes in some runs.
+    fn counted(runs: &[Run]) -> Vec<u64> {
         let run = archive::panel().expect("linked");
-        let mut rooms: Vec<Vec<u8>> = tapes.iter().map(|tape| vec![0; archive::room(tape)]).collect();
+        let mut room = rows::room(runs);
         COPIES.iter().for_each(|count| count.store(0, Relaxed));
-        for (tape, room) in tapes.iter().zip(&mut rooms) {
-            run(tape, room);
-        }
+        rows::all(run, runs, &mut room);
         COPIES.iter().map(|count| count.load(Relaxed)).collect()
     }
 
