@@ -16,7 +16,6 @@ use Rattle.f32_laws.specs.Key.{Num}
 use Rattle.f32_laws.specs.Sixty.{in64}
 use Rattle.f32_laws.proofs.Tests.{both}
 use Rattle.f32_laws.proofs.Larger.{larger-key, larger-one}
-use Rattle.f32_laws.proofs.Limits.{u20-twice}
 use Rattle.f32_laws.proofs.Index64.{half-twice}
 use Rattle.float.specs.declared.FloatDirection.{FloatDirection}
 use Rattle.float.specs.declared.Segment.{Segment}
@@ -26,7 +25,7 @@ use Rattle.float.specs.Numbers.{inReach}
 use Rattle.float.specs.Bands.{lead, none, bare, marked, splitAt, markAll, lastEnd}
 use Rattle.float.specs.Place.{Made, seed, endOf, gapped, walked, inside, startedAt, make}
 use Rattle.demands.specs.Runs.{Each, insetAt}
-use Rattle.demands.proofs.Laws.{k, Val, Ins, Top, on-either, top-low}
+use Rattle.demands.proofs.Laws.{k, far-twice, Val, Ins, Top, on-either, top-low}
 use Rattle.demands.proofs.Chain.{Chain, chain-at, chain-next, chain-last, last-is}
 use Rattle.demands.proofs.Heights.{at-band, at-below}
 use Rattle.demands.proofs.Seek.{Holds, Count, Found}
@@ -81,7 +80,7 @@ module _ (l : List Segment) (c : Chain (inf true) l) (p : Each Band64 l) where
     where
       go : (i : ℕ) → i < length l → (larger y (getD l i none .start) ≡ y) ⊎ (larger y (getD l i none .start) ≡ getD l i none .start) → Q (larger y (getD l i none .start))
       go i h (inl e) = subst Q (sym e) q
-      go zero h (inr e) = absurd (not-suc-le-zero {n = 0} (omega (arith, ap k e, ap k (chain-first (inf true) l c h), larger-key (v .num) (chain-at (inf true) l 0 c h .start .num), v .low, u20-twice)))
+      go zero h (inr e) = absurd (not-suc-le-zero {n = 0} (omega (arith, ap k e, ap k (chain-first (inf true) l c h), larger-key (v .num) (chain-at (inf true) l 0 c h .start .num), v .low, far-twice)))
       go (suc i) h (inr e) = subst Q (sym (e ∙ chain-next (inf true) l i c h)) (band-at l i p (omega arith) .end)
 
   pub in-band : (s : ℕ) (y : Float) → s < length l → Holds (getD l s none) y → k y ≤ k (getD l s none .end)
@@ -156,7 +155,7 @@ module _ (a : Ask) (q : Ask64 a) where
   below-y [] y c p v q' = go (larger-one (inf true) y)
     where
       go : (larger (inf true) y ≡ (inf true)) ⊎ (larger (inf true) y ≡ y) → Q (larger (inf true) y)
-      go (inl e) = absurd (not-suc-le-zero {n = 0} (omega (arith, ap k e, larger-key (top-low .num) (v .num), v .low, u20-twice)))
+      go (inl e) = absurd (not-suc-le-zero {n = 0} (omega (arith, ap k e, larger-key (top-low .num) (v .num), v .low, far-twice)))
       go (inr e) = subst Q (sym e) q'
   below-y (b ∷ bs) y c p v q' = q-larger (last64 (b .end) bs y (p .1) (p .0 .end)) q'
 

@@ -9,11 +9,9 @@ use lib.Ieee.{Float, nan, inf, fin, binary32, fits as fits-in, add, lt, le, eq}
 use lib.Ieee.Fits.{and-l, and-r}
 use Rattle.f32_laws.specs.Numbers.{larger, zero+}
 use Rattle.f32_laws.specs.Key.{Num, mag}
-use Rattle.f32_laws.specs.Within.{u20}
 use Rattle.f32_laws.proofs.Tests.{both}
 use Rattle.f32_laws.proofs.Keys.{le→key}
 use Rattle.f32_laws.proofs.Larger.{larger-key}
-use Rattle.f32_laws.proofs.Limits.{u20-twice}
 use Rattle.float.specs.declared.Bottom.{Bottom}
 use Rattle.float.specs.declared.Clear.{Clear}
 use Rattle.float.specs.declared.FloatDirection.{FloatDirection}
@@ -27,7 +25,7 @@ use Rattle.float.specs.Page.{Page}
 use Rattle.float.specs.Clear.{lower, raiseTo, cleared}
 use Rattle.float.specs.Place.{Call, cleaned, numbers, lowest, askOf, counted}
 use Rattle.demands.specs.Runs.{Each, box, handed, F32}
-use Rattle.demands.proofs.Laws.{k, Val, Ins, zero-k, ins-zero, val-top, on-either, larger-top}
+use Rattle.demands.proofs.Laws.{k, far-twice, Val, Ins, zero-k, ins-zero, val-top, on-either, larger-top}
 use Rattle.demands.proofs.Seek.{Asked}
 
 -- ---- limits
@@ -37,8 +35,8 @@ num-of nan f t = absurd t
 num-of (inf s) f t = record { is = tt }
 num-of (fin s m e) f t = record { is = f }
 
-most-mag : mag binary32 1 (pos 16) ≤ u20
-unfolding mag u20
+most-mag : mag binary32 1 (pos 16) ≤ mag binary32 1 (pos 17)
+unfolding mag
 most-mag = lit≤ tt
 
 pub most-num : Num binary32 most
@@ -67,7 +65,7 @@ known-one (offset x) f t w =
     let n = num-of x f t in
     record {
       num = n;
-      low = omega (arith, most-mag, u20-twice, le→key least-num n (and-l (le least x) (le x most) w));
+      low = omega (arith, most-mag, far-twice, le→key least-num n (and-l (le least x) (le x most) w));
       high = omega (arith, most-mag, le→key n most-num (and-r (le least x) (le x most) w));
     }
 

@@ -1,6 +1,6 @@
 -- The numbers of a page by their keys; and a box that fits beside insets fits beside smaller ones, for sums and differences are monotone.
 use mathlib.Core.Path.{_≡_}
-use Prim.Native.Nat.{ℕ, _+_, _≤_}
+use Prim.Native.Nat.{ℕ, _+_, _≤_, _<_}
 use native.Mathlib.Omega.{arith}
 use mathlib.Core.Bool.{Bool, true, false, _||_}
 use lib.IntN.{pos}
@@ -28,22 +28,33 @@ k x = key binary32 x
 abbrev pub B : ℕ
 B = bias binary32
 
--- a number at most 2 ^ 20 either way
+-- 131,072 in units: no bottom, no far edge and no y goes further
+abbrev pub far : ℕ
+far = mag binary32 1 (pos 17)
+
+far-u20 : far ≤ u20
+unfolding mag u20
+far-u20 = lit≤ tt
+
+pub far-twice : far + far < B
+far-twice = omega (arith, far-u20, u20-twice)
+
+-- a number at most 131,072 either way
 pub record Val (x : Float) : Type 0 where
   pub num : Num binary32 x
-  pub low : B ≤ k x + u20
-  pub high : k x ≤ B + u20
+  pub low : B ≤ k x + far
+  pub high : k x ≤ B + far
 
 -- one that is at least 0
 pub record Ins (x : Float) : Type 0 where
   pub num : Num binary32 x
   pub low : B ≤ k x
-  pub high : k x ≤ B + u20
+  pub high : k x ≤ B + far
 
 -- a band's start may be minus infinity
 pub record Top (x : Float) : Type 0 where
   pub num : Num binary32 x
-  pub high : k x ≤ B + u20
+  pub high : k x ≤ B + far
 
 pub ins-val : {x : Float} → Ins x → Val x
 ins-val p = record { num = p .num; low = omega arith; high = p .high }
@@ -55,7 +66,7 @@ pub top-low : Top (inf true)
 top-low = record { num = record { is = tt }; high = omega arith }
 
 val-fin : {x : Float} → Val x → Fin binary32 x
-val-fin p = fin-of-key (p .num) (omega (arith, u20-twice, p .low)) (omega (arith, u20-twice, p .high))
+val-fin p = fin-of-key (p .num) (omega (arith, far-twice, p .low)) (omega (arith, far-twice, p .high))
 
 pub ins-fin : {x : Float} → Ins x → Fin binary32 x
 ins-fin p = val-fin (ins-val p)
@@ -88,10 +99,6 @@ sum-num p q = add-num (val-fin p) (ins-fin q)
 pub sum-grows : {x y : Float} → Val x → Ins y → k x ≤ k (add binary32 x y)
 sum-grows p q = le→key (p .num) (sum-num p q) (add-grows (val-fin p) (ins-fin q) (key→le (ins-zero .num) (q .num) (omega (arith, zero-k, q .low))))
 
-farthest-mag : mag binary32 1 (pos 17) ≤ u20
-unfolding mag u20
-farthest-mag = lit≤ tt
-
 pub farthest-num : Num binary32 farthest
 unfolding fits-in
 farthest-num = record { is = tt }
@@ -99,7 +106,7 @@ farthest-num = record { is = tt }
 -- a sum that refusal 6 lets pass
 pub sum-val : {x y : Float} → Val x → Ins y → T (inReach (add binary32 x y)) → Val (add binary32 x y)
 unfolding inReach
-sum-val p q h = record { num = sum-num p q; low = omega (arith, p .low, sum-grows p q); high = omega (arith, le→key (sum-num p q) farthest-num h, farthest-mag) }
+sum-val p q h = record { num = sum-num p q; low = omega (arith, p .low, sum-grows p q); high = le→key (sum-num p q) farthest-num h }
 
 pub sum-ins : {x y : Float} → Ins x → Ins y → T (inReach (add binary32 x y)) → Ins (add binary32 x y)
 sum-ins p q h = let v = sum-val (ins-val p) q h in record { num = v .num; low = omega (arith, p .low, sum-grows (ins-val p) q); high = v .high }
