@@ -19,7 +19,7 @@ use Rattle.float.specs.declared.Refusal.{Refusal}
 use Rattle.float.specs.declared.fit.Ask.{Ask}
 use Rattle.float.specs.declared.refuse.Check.{Check}
 use Rattle.float.specs.Numbers.{most, least, plusZero, finite, within, Given, size, offset, value, allowed, allFinite, allAllowed}
-use Rattle.float.specs.Refuse.{sideOf, clearOf, checkOf}
+use Rattle.float.specs.Refuse.{numberOf, sideOf, clearOf, checkOf}
 use Rattle.float.specs.Bands.{onSide}
 use Rattle.float.specs.Page.{Page}
 use Rattle.float.specs.Clear.{lower, raiseTo, cleared}
@@ -74,15 +74,15 @@ unfolding allFinite allAllowed
 known [] f t w = tt
 known (g ∷ gs) f t w = (known-one g (f .0) (and-l (finite (value g)) (allFinite gs) t) (and-l (allowed g) (allAllowed gs) w), known gs (f .1) (and-r (finite (value g)) (allFinite gs) t) (and-r (allowed g) (allAllowed gs) w))
 
--- a check's two ways
-pub check-both {ℓ} : {A : Type ℓ} (P : A → Type 0) (b : Bool) (gs : List Given) {x : A} {f : Refusal → A} → (T (allFinite gs) → T (allAllowed gs) → P x) → ((n : Refusal) → P (f n)) → P (elim (checkOf b gs) [ Check.Passed ↦ x | Check.Refused n ↦ f n ])
+-- a check's two ways: it refuses with 1, 2 or 3
+pub check-both {ℓ} : {A : Type ℓ} (P : A → Type 0) (b : Bool) (gs : List Given) {x : A} {f : Refusal → A} → (T (allFinite gs) → T (allAllowed gs) → P x) → ((n : Refusal) → numberOf n ≤ 3 → P (f n)) → P (elim (checkOf b gs) [ Check.Passed ↦ x | Check.Refused n ↦ f n ])
 unfolding checkOf
 check-both P b gs {x} {f} p q = go b (allFinite gs) (allAllowed gs) p
   where
     go : (b t u : Bool) → (T t → T u → P x) → P (elim (cond b (cond t (cond u Check.Passed (Check.Refused Refusal.OutOfLimits)) (Check.Refused Refusal.NotFinite)) (Check.Refused Refusal.UnknownCode)) [ Check.Passed ↦ x | Check.Refused n ↦ f n ])
-    go false t u p = q Refusal.UnknownCode
-    go true false u p = q Refusal.NotFinite
-    go true true false p = q Refusal.OutOfLimits
+    go false t u p = q Refusal.UnknownCode (omega arith)
+    go true false u p = q Refusal.NotFinite (omega arith)
+    go true true false p = q Refusal.OutOfLimits (omega arith)
     go true true true p = p tt tt
 
 -- ---- minus zero
@@ -173,10 +173,22 @@ unfolding raiseTo
 raise-over x y Bottom.None v w h = absurd h
 raise-over x y (Bottom.At z) v w h = omega (arith, larger-key (v .num) (w .num))
 
--- rule 1 stays at or below the ceiling
-pub lowest-over : (p : Page) (c : Call) → Val (c .minY) → BottomIs Val (p .ceiling) → ((r : FloatDirection) → BottomIs Val (bottomOn r p)) → (x : Float) → AtMost x (p .ceiling) → k x ≤ k (lowest p c)
-unfolding lowest
-lowest-over p c m h g x o =
-    let y = raiseTo (c .minY) (p .ceiling) in
-    let z = cleared p (clearOf (c .clear)) in
-    omega (arith, raise-over x (c .minY) (p .ceiling) m h o, raise-up y z (raise-is Val larger-val (c .minY) (p .ceiling) m h) (cleared-is Val larger-val p g (clearOf (c .clear))))
+-- rule 1 goes no higher than min_y, the ceiling and the cleared bottoms
+module _ (p : Page) (c : Call) (m : Val (c .minY)) (h : BottomIs Val (p .ceiling)) (g : (r : FloatDirection) → BottomIs Val (bottomOn r p)) where
+  raised : Val (raiseTo (c .minY) (p .ceiling))
+  raised = raise-is Val larger-val (c .minY) (p .ceiling) m h
+
+  below : BottomIs Val (cleared p (clearOf (c .clear)))
+  below = cleared-is Val larger-val p g (clearOf (c .clear))
+
+  pub lowest-min : k (c .minY) ≤ k (lowest p c)
+  unfolding lowest
+  lowest-min = omega (arith, raise-up (c .minY) (p .ceiling) m h, raise-up _ (cleared p (clearOf (c .clear))) raised below)
+
+  pub lowest-over : (x : Float) → AtMost x (p .ceiling) → k x ≤ k (lowest p c)
+  unfolding lowest
+  lowest-over x o = omega (arith, raise-over x (c .minY) (p .ceiling) m h o, raise-up _ (cleared p (clearOf (c .clear))) raised below)
+
+  pub lowest-cleared : (x : Float) → AtMost x (cleared p (clearOf (c .clear))) → k x ≤ k (lowest p c)
+  unfolding lowest
+  lowest-cleared x o = raise-over x _ (cleared p (clearOf (c .clear))) raised below o

@@ -37,7 +37,7 @@ refused-left p c =
     (λ x. both (Left p) (near (askOf p d) (s .inset) (s .y)) (λ z. tt) (λ z. refl))
     (λ x. both (Left p) (near (askOf p d) (s .inset) (make (askOf p d) (p .bands) s .y)) (λ z. both (Left p) (leb (length (make (askOf p d) (p .bands) s .bands)) maxBands) (λ z. tt) (λ z. refl)) (λ z. refl)))
     (λ w. refl))
-    (λ n. refl)
+    (λ n o. refl)
   where
     d : Call
     d = cleaned c

@@ -79,7 +79,7 @@ place64 p l c v f s = go (place-ok p l c (v .inv) f)
     go : Step p l d (place p c) → Inv64 (place p c .page) (noted (place p c .answer) d (place p c .page) l)
     go = check-both (λ (r : Result). Step p l d r → Inv64 (r .page) (noted (r .answer) d (r .page) l)) (ltb (c .side) 2 && ltb (c .clear) 4) (numbers d)
         (λ t u. let n = known (numbers d) (cleaned-fits c f) t u in admitted64 p l d v n (known64 (numbers d) (cleaned-fits c f) s u n))
-        (λ n st. v)
+        (λ n o st. v)
 
 -- ---- the width
 pub wide64 : (p : Page) (l : List Accepted) (w : Float) → Inv64 p l → F32 w → Whole64 w → Inv64 (setWidth p w) l

@@ -1,12 +1,14 @@
 -- Any sequence of calls from a fresh page, the page after it and the placements that it had accepted; and the words of the promises. Definitions only.
-use Prim.Native.Nat.{ℕ, _-_, _<_}
+use Prim.Native.Nat.{ℕ, _-_, _^_, _≤_, _<_}
 use mathlib.Core.Path.{_≡_}
 use mathlib.Core.Bool.{Bool, true, false, _&&_, _||_}
 use mathlib.Core.List.{List, [], _∷_, _++_}
 use lib.Dec.{T}
+use lib.IntN.{ℤ, natAbs, _+ℤ_}
 use lib.Ieee.{Float, binary32, fits as fits-in, add, sub, lt, le, eq}
 use lib.ListN.{length, getD}
 use Rattle.f32_laws.specs.Numbers.{larger, zero+, is64}
+use Rattle.f32_laws.specs.Sixty.{in64}
 use Rattle.float.specs.declared.Bottom.{Bottom}
 use Rattle.float.specs.declared.FloatContext.{FloatContext}
 use Rattle.float.specs.declared.FloatDirection.{FloatDirection}
@@ -150,12 +152,32 @@ containingLead a = onSide (sideIn a) (a .call .left) (a .call .right)
 abbrev pub containingTrail : Accepted → Float
 containingTrail a = onSide (sideIn a) (a .call .right) (a .call .left)
 
--- the far edges; on whole 64ths within the limits these sums are exact
+-- x by side: a left box's inset, a right box's page width - inset - width, rounded left to right
+abbrev pub xFrom : Float → Accepted → Float
+xFrom w a = onSide (sideIn a) (a .inset) (sub binary32 (sub binary32 w (a .inset)) (a .call .width))
+
+-- the far edges; the last as an inset
 abbrev pub bottom : Accepted → Float
 bottom a = add binary32 (a .y) (a .call .height)
 
 abbrev pub rightEdge : Accepted → Float
 rightEdge a = add binary32 (a .x) (a .call .width)
+
+abbrev pub farInset : Accepted → Float
+farInset a = add binary32 (a .inset) (a .call .width)
+
+-- y is at or below a kept height, if there is one
+abbrev pub AtOrBelow : Bottom → Float → Type 0
+AtOrBelow Bottom.None y = Unit {0}
+AtOrBelow (Bottom.At x) y = T (le x y)
+
+-- x is j / 64, y is k / 64 and s is (j + k) / 64, each held exactly: the sum s of x and y is not rounded
+pub record ExactSum (x y s : Float) : Type 0 where
+  pub j : ℤ
+  pub k : ℤ
+  pub first : (x ≡ in64 binary32 j) × (natAbs j ≤ 2 ^ 24)
+  pub second : (y ≡ in64 binary32 k) × (natAbs k ≤ 2 ^ 24)
+  pub sum : (s ≡ in64 binary32 (j +ℤ k)) × (natAbs (j +ℤ k) ≤ 2 ^ 24)
 
 -- width and height are above zero
 abbrev pub sized : Accepted → Bool
