@@ -10,7 +10,7 @@ use lib.Ieee.Fits.{and-l, and-r}
 use Rattle.f32_laws.specs.Numbers.{larger, zero+}
 use Rattle.f32_laws.specs.Key.{Num, mag}
 use Rattle.f32_laws.proofs.Tests.{both}
-use Rattle.f32_laws.proofs.Keys.{le→key}
+use Rattle.f32_laws.proofs.Keys.{le→key, key→le}
 use Rattle.f32_laws.proofs.Larger.{larger-key}
 use Rattle.float.specs.declared.Bottom.{Bottom}
 use Rattle.float.specs.declared.Clear.{Clear}
@@ -24,7 +24,7 @@ use Rattle.float.specs.Bands.{onSide}
 use Rattle.float.specs.Page.{Page}
 use Rattle.float.specs.Clear.{lower, raiseTo, cleared}
 use Rattle.float.specs.Place.{Call, cleaned, numbers, lowest, askOf, counted}
-use Rattle.demands.specs.Runs.{Each, box, handed, F32}
+use Rattle.demands.specs.Runs.{Each, box, handed, F32, AtOrBelow, LowEnough}
 use Rattle.demands.proofs.Laws.{k, far-twice, Val, Ins, zero-k, ins-zero, val-top, on-either, larger-top}
 use Rattle.demands.proofs.Seek.{Asked}
 
@@ -181,7 +181,7 @@ module _ (p : Page) (c : Call) (m : Val (c .minY)) (h : BottomIs Val (p .ceiling
   below : BottomIs Val (cleared p (clearOf (c .clear)))
   below = cleared-is Val larger-val p g (clearOf (c .clear))
 
-  pub lowest-min : k (c .minY) ≤ k (lowest p c)
+  lowest-min : k (c .minY) ≤ k (lowest p c)
   unfolding lowest
   lowest-min = omega (arith, raise-up (c .minY) (p .ceiling) m h, raise-up _ (cleared p (clearOf (c .clear))) raised below)
 
@@ -189,6 +189,14 @@ module _ (p : Page) (c : Call) (m : Val (c .minY)) (h : BottomIs Val (p .ceiling
   unfolding lowest
   lowest-over x o = omega (arith, raise-over x (c .minY) (p .ceiling) m h o, raise-up _ (cleared p (clearOf (c .clear))) raised below)
 
-  pub lowest-cleared : (x : Float) → AtMost x (cleared p (clearOf (c .clear))) → k x ≤ k (lowest p c)
+  lowest-cleared : (x : Float) → AtMost x (cleared p (clearOf (c .clear))) → k x ≤ k (lowest p c)
   unfolding lowest
   lowest-cleared x o = raise-over x _ (cleared p (clearOf (c .clear))) raised below o
+
+  -- so a y that is no higher is low enough
+  pub low-enough : (y : Float) → Val y → k (lowest p c) ≤ k y → LowEnough p c y
+  low-enough y v o = (key→le (m .num) (v .num) (omega (arith, lowest-min)), on (p .ceiling) h (λ x t. omega (arith, lowest-over x t)), on (cleared p (clearOf (c .clear))) below (λ x t. omega (arith, lowest-cleared x t)))
+    where
+      on : (b : Bottom) → BottomIs Val b → ((x : Float) → AtMost x b → k x ≤ k y) → AtOrBelow b y
+      on Bottom.None w f = tt
+      on (Bottom.At x) w f = key→le (w .num) (v .num) (f x (omega arith))

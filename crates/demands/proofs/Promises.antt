@@ -17,17 +17,17 @@ use Rattle.float.specs.Bands.{sameSide, other, lead, none}
 use Rattle.float.specs.Page.{Page, pageOf, stored}
 use Rattle.float.specs.Fit.{fits}
 use Rattle.float.specs.Place.{Call, cleaned, numbers, inputCheck, lowest, firstOf, askOf, spotOf, make, place, placedPage, placeOf, setWidth, widthOf, ifDone}
-use Rattle.demands.specs.Runs.{Each, Pairs, Act, box, boxIn, next, run, after, pageIn, bandsIn, Stays, handed, Handed, F32, Whole64, insetAt, NoSmaller, EdgeToEdge, Parted, sideIn, containingLead, containingTrail, sized, shareHeight, overlap, fitsExactly, Joins, Page64}
+use Rattle.demands.specs.Runs.{Each, Pairs, Act, box, boxIn, next, run, after, pageIn, bandsIn, Stays, handed, Handed, F32, Whole64, insetAt, NoSmaller, EdgeToEdge, Parted, sideIn, containingLead, containingTrail, xFrom, bottom, rightEdge, farInset, LowEnough, ExactSum, sized, shareHeight, overlap, fitsExactly, Joins, Page64}
 use Rattle.demands.proofs.Seek.{no-count}
 use Rattle.demands.proofs.Input.{cleaned-fits}
-use Rattle.demands.proofs.Whole.{StepsTo, spot-ok, place-ok}
+use Rattle.demands.proofs.Whole.{StepsTo, Lies, spot-ok, place-ok}
 use Rattle.demands.proofs.Structs.{page-placed}
 use Rattle.demands.proofs.Parts.{make-parts}
 use Rattle.demands.proofs.Exact.{fits-idle}
 use Rattle.demands.proofs.Whole64.{known64, ask64}
 use Rattle.demands.proofs.Reached.{reached, grown, reached64}
-use Rattle.demands.proofs.Edges.{seven, apart}
-use Rattle.demands.proofs.Said.{edges, held-inset, no-smaller, passed, page64, joins-ins, joins64, clear-pairs}
+use Rattle.demands.proofs.Edges.{exact-edges, seven, apart}
+use Rattle.demands.proofs.Said.{edges, held-inset, no-smaller, passed, page64, joins-ins, joins64, each-boxed, clear-pairs}
 
 -- ---- any numbers: `os` is what was called so far
 
@@ -85,6 +85,15 @@ rule-5 os f = reached os f .rises
 pub rule-1 : (os : List Act) → Handed F32 os → Each (λ a. T (le (containingLead a) (a .inset))) (after os .accepted)
 rule-1 os f = reached os f .leads
 
+-- the answered x by side, from the placed inset
+pub x-by-side : (os : List Act) → Handed F32 os → Each (λ a. a .x ≡ xFrom (pageIn (after os) .width) a) (after os .accepted)
+x-by-side os f = reached os f .answers
+
+-- the answered y is at least min_y, the ceiling and the cleared bottoms of the page before
+pub y-low-enough : (os : List Act) (c : Call) → Handed F32 os → Each F32 (handed (box c)) → (x y : Float) (k : ℕ) → placeOf (after os .struct) c .answer ≡ PlaceAnswer.At x y k → LowEnough (pageIn (after os)) (cleaned c) y
+unfolding placeOf
+y-low-enough os c f g x y k e = subst (Lies (pageIn (after os)) (cleaned c)) e (place-ok (pageIn (after os)) (after os .accepted) c (reached os f) g .lies)
+
 -- ---- if every number handed in was whole 64ths
 
 -- all numbers that the page then holds are whole 64ths
@@ -101,6 +110,11 @@ tolerance-idle os c f s g h e l t j i =
     let v = reached64 os f s in
     let n = passed c g e in
     fits-idle (askOf p d) (ask64 p (after os .accepted) d v (n .0) (known64 (numbers d) (cleaned-fits c g) h (n .1) (n .0))) (joins64 (v .bands) j) (joins64 (v .bands) i) (joins-ins (v .inv .chain) j) (joins-ins (v .inv .chain) i)
+
+-- the far edges x + width, y + height and inset + width are not rounded
+pub edges-exact : (os : List Act) → Handed F32 os → Handed Whole64 os
+    → Each (λ a. ExactSum (a .x) (a .call .width) (rightEdge a) × ExactSum (a .y) (a .call .height) (bottom a) × ExactSum (a .inset) (a .call .width) (farInset a)) (after os .accepted)
+edges-exact os f s = each-boxed os f s exact-edges
 
 -- rule 7: beside an earlier box of its side, inset + width is at most page width - containing trail inset
 pub rule-7 : (os : List Act) → Handed F32 os → Handed Whole64 os

@@ -31,13 +31,13 @@ use Rattle.float.specs.Bands.{onSide, other, none, firstBelow}
 use Rattle.float.specs.Page.{Kept, Page, fresh, noBox, maxBands, maxBoxes}
 use Rattle.float.specs.Clear.{clearedPast}
 use Rattle.float.specs.Place.{Call, cleaned, numbers, Result, lowest, firstOf, firstAllowed, askOf, spotOf, Made, make, keep, recorded, boxOf, counted, xOf, refuse, near, high, flat, put, admitted, checked, place, widthCheck, withWidth, ifDone, setWidth}
-use Rattle.demands.specs.Runs.{Each, Pairs, Accepted, boxIn, lastInset, noted, box, handed, F32, containingLead, xFrom}
+use Rattle.demands.specs.Runs.{Each, Pairs, Accepted, boxIn, lastInset, noted, box, handed, F32, containingLead, xFrom, LowEnough}
 use Rattle.demands.proofs.Laws.{k, Val, Ins, on-either, ins-zero, ins-val, sum-val, sum-ins, sum-grows}
 use Rattle.demands.proofs.Chain.{Chain, chain-at, chain-mark, length-mark}
 use Rattle.demands.proofs.Heights.{Grows, grows-refl, grows-trans, grows-mark}
 use Rattle.demands.proofs.Seek.{Falls, Asked, Count, no-count, Found, search-law, first-le, first-ge, first-end, first-far}
 use Rattle.demands.proofs.Make.{MadeOk, make-ok}
-use Rattle.demands.proofs.Input.{Known, known, check-both, plus-fits, cleaned-fits, asked, bottomOn, BottomIs, AtMost, lower-is, counted-is, lowest-is, larger-val, ceiling-keeps, ceiling-takes, lowest-over}
+use Rattle.demands.proofs.Input.{Known, known, check-both, plus-fits, cleaned-fits, asked, bottomOn, BottomIs, AtMost, lower-is, counted-is, lowest-is, larger-val, ceiling-keeps, ceiling-takes, lowest-over, low-enough}
 use Rattle.demands.proofs.Lists.{each-append, pairs-append, each-map}
 
 -- ---- the invariant
@@ -93,10 +93,10 @@ abbrev pub StepsTo : ℕ → PlaceAnswer → Type 0
 StepsTo n (PlaceAnswer.At x y s) = s ≤ n + n
 StepsTo n (PlaceAnswer.Refused m) = Unit {0}
 
--- the y of an answer is at or below z
-abbrev pub FromOn : Float → PlaceAnswer → Type 0
-FromOn z (PlaceAnswer.At x y s) = Val y × (k z ≤ k y)
-FromOn z (PlaceAnswer.Refused m) = Unit {0}
+-- the y of an answer is low enough
+abbrev pub Lies : Page → Call → PlaceAnswer → Type 0
+Lies p c (PlaceAnswer.At x y s) = LowEnough p c y
+Lies p c (PlaceAnswer.Refused m) = Unit {0}
 
 -- what one placement does to a page and its log
 pub record Step (p : Page) (g : List Accepted) (c : Call) (r : Result) : Type 0 where
@@ -104,10 +104,10 @@ pub record Step (p : Page) (g : List Accepted) (c : Call) (r : Result) : Type 0 
   pub grows : Grows (p .bands) (r .page .bands)
   pub more : length (r .page .bands) ≤ length (p .bands) + 2
   pub steps : StepsTo (length (p .bands)) (r .answer)
-  pub from : FromOn (lowest p c) (r .answer)
+  pub lies : Lies p c (r .answer)
 
 refuse-ok : (p : Page) (g : List Accepted) (c : Call) (n : Refusal) → Inv p g → Step p g c (refuse p n)
-refuse-ok p g c n v = record { inv = v; grows = grows-refl (p .bands); more = omega arith; steps = tt; from = tt }
+refuse-ok p g c n v = record { inv = v; grows = grows-refl (p .bands); more = omega arith; steps = tt; lies = tt }
 
 -- ---- the two sides
 sides : (q r : FloatDirection) (f : ℕ) (l : List Segment) → Falls q f l ⊎ Falls (other q) f l → Falls r f l ⊎ Falls (other r) f l
@@ -206,7 +206,7 @@ module _ (p : Page) (g : List Accepted) (a : Ask) (i : Float) (m : Made) (v : In
       K x = x .first ≤ x .past
 
 -- ---- a placement whose input is in order
-module _ (p : Page) (g : List Accepted) (c : Call) (s : Spot) (v : Inv p g) (q : Asked (askOf p c)) (h : (z : Float) → AtMost z (p .ceiling) → k z ≤ k (lowest p c)) (n : length (p .boxes) < maxBoxes) (H : Count (p .bands)) (f : Found (p .bands) (askOf p c) (firstOf p) (lowest p c) H s) where
+module _ (p : Page) (g : List Accepted) (c : Call) (s : Spot) (v : Inv p g) (q : Asked (askOf p c)) (h : (z : Float) → AtMost z (p .ceiling) → k z ≤ k (lowest p c)) (e : (y : Float) → Val y → k (lowest p c) ≤ k y → LowEnough p c y) (n : length (p .boxes) < maxBoxes) (H : Count (p .bands)) (f : Found (p .bands) (askOf p c) (firstOf p) (lowest p c) H s) where
   put-ok : Step p g c (put p (askOf p c) s)
   unfolding put flat high
   put-ok =
@@ -217,7 +217,7 @@ module _ (p : Page) (g : List Accepted) (c : Call) (s : Spot) (v : Inv p g) (q :
         grows = grows-refl (p .bands);
         more = omega arith;
         steps = f .steps;
-        from = (f .y, f .low);
+        lies = e (s .y) (f .y) (f .low);
       })
       (λ u. refuse-ok p g c Refusal.TooFar v))
       (λ t. both (Step p g c) (near a (s .inset) (m .y))
@@ -230,7 +230,7 @@ module _ (p : Page) (g : List Accepted) (c : Call) (s : Spot) (v : Inv p g) (q :
         grows = recorded-grows p g a (s .inset) m v q (f .inset) z l D o;
         more = recorded-more p g a (s .inset) m v q (f .inset) z l D o;
         steps = f .steps;
-        from = (d .0 .0, omega (arith, f .low, d .0 .1));
+        lies = e (m .y) (d .0 .0) (omega (arith, f .low, d .0 .1));
       })
       (λ w. refuse-ok p g c Refusal.BandsFull v))
       (λ u. refuse-ok p g c Refusal.TooFar v))
@@ -286,7 +286,7 @@ admitted-ok : (p : Page) (g : List Accepted) (c : Call) → Inv p g → Each Kno
 unfolding admitted
 admitted-ok p g c v n =
     both (Step p g c) (ltb (length (p .boxes)) maxBoxes)
-    (λ w. put-ok p g c (spotOf p c) v (asked p c (v .width) n) (lowest-over p c (n .1 .1 .0) (v .ceiling) (v .bottom)) (ltb→lt (length (p .boxes)) maxBoxes w) (no-count (p .bands)) (spot-ok p g c v n (no-count (p .bands)) tt tt))
+    (λ w. put-ok p g c (spotOf p c) v (asked p c (v .width) n) (lowest-over p c (n .1 .1 .0) (v .ceiling) (v .bottom)) (low-enough p c (n .1 .1 .0) (v .ceiling) (v .bottom)) (ltb→lt (length (p .boxes)) maxBoxes w) (no-count (p .bands)) (spot-ok p g c v n (no-count (p .bands)) tt tt))
     (λ w. refuse-ok p g c Refusal.BoxesFull v)
 
 -- one placement

@@ -17,9 +17,10 @@ use Rattle.float.specs.declared.PlacedFloatedBox.{PlacedFloatedBox}
 use Rattle.float.specs.declared.Segment.{Segment}
 use Rattle.float.specs.declared.fit.Ask.{Ask}
 use Rattle.float.specs.Numbers.{most, least, plusZero, within}
-use Rattle.float.specs.Refuse.{sideOf}
+use Rattle.float.specs.Refuse.{sideOf, clearOf}
 use Rattle.float.specs.Bands.{onSide, lead, none, splitAt}
 use Rattle.float.specs.Page.{Page, pageOf, freshContext, noBox}
+use Rattle.float.specs.Clear.{cleared}
 use Rattle.float.specs.Fit.{placedAt}
 use Rattle.float.specs.Place.{Call, cleaned, inside, placeOf, widthOf}
 
@@ -170,6 +171,10 @@ farInset a = add binary32 (a .inset) (a .call .width)
 abbrev pub AtOrBelow : Bottom → Float → Type 0
 AtOrBelow Bottom.None y = Unit {0}
 AtOrBelow (Bottom.At x) y = T (le x y)
+
+-- y is at or below min_y, the page's ceiling and the bottoms that the call clears
+abbrev pub LowEnough : Page → Call → Float → Type 0
+LowEnough p c y = T (le (c .minY) y) × AtOrBelow (p .ceiling) y × AtOrBelow (cleared p (clearOf (c .clear))) y
 
 -- x is j / 64, y is k / 64 and s is (j + k) / 64, each held exactly: the sum s of x and y is not rounded
 pub record ExactSum (x y s : Float) : Type 0 where
