@@ -13,6 +13,7 @@ pub mod Exact
 pub mod Bands64
 pub mod Apart
 pub mod Whole64
+pub mod Content
 pub mod Reached
 pub mod Edges
 pub mod Said

@@ -6,18 +6,22 @@ use mathlib.Core.List.{List, map}
 use lib.Dec.{T}
 use lib.Ieee.{Float, inf, binary32, add, sub, lt, le}
 use lib.ListN.{length, getD}
+use Rattle.float.specs.declared.ContentAnswer.{ContentAnswer}
+use Rattle.float.specs.declared.ContentSlot.{ContentSlot}
 use Rattle.float.specs.declared.Done.{Done}
 use Rattle.float.specs.declared.FloatContext.{FloatContext}
 use Rattle.float.specs.declared.FloatDirection.{FloatDirection}
 use Rattle.float.specs.declared.PlaceAnswer.{PlaceAnswer}
 use Rattle.float.specs.declared.Refusal.{Refusal}
 use Rattle.float.specs.declared.refuse.Check.{Check}
+use Rattle.float.specs.Numbers.{plusZero}
 use Rattle.float.specs.Refuse.{sideOf}
 use Rattle.float.specs.Bands.{sameSide, other, lead, none}
 use Rattle.float.specs.Page.{Page, pageOf, stored}
 use Rattle.float.specs.Fit.{fits}
 use Rattle.float.specs.Place.{Call, cleaned, numbers, inputCheck, lowest, firstOf, askOf, spotOf, make, place, placedPage, placeOf, setWidth, widthOf, ifDone}
-use Rattle.demands.specs.Runs.{Each, Pairs, Act, box, boxIn, next, run, after, pageIn, bandsIn, Stays, handed, Handed, F32, Whole64, insetAt, NoSmaller, EdgeToEdge, Parted, sideIn, containingLead, containingTrail, xFrom, bottom, rightEdge, farInset, LowEnough, ExactSum, sized, shareHeight, overlap, fitsExactly, Joins, Page64}
+use Rattle.float.specs.Slot.{content}
+use Rattle.demands.specs.Runs.{Each, Pairs, Act, box, boxIn, next, run, after, pageIn, bandsIn, Stays, handed, Handed, F32, Whole64, insetAt, NoSmaller, EdgeToEdge, Parted, sideIn, containingLead, containingTrail, xFrom, bottom, rightEdge, farInset, LowEnough, ExactSum, contentAt, Between, sized, shareHeight, overlap, fitsExactly, Joins, Page64}
 use Rattle.demands.proofs.Seek.{no-count}
 use Rattle.demands.proofs.Input.{cleaned-fits}
 use Rattle.demands.proofs.Whole.{StepsTo, Lies, spot-ok, place-ok}
@@ -25,6 +29,7 @@ use Rattle.demands.proofs.Structs.{page-placed}
 use Rattle.demands.proofs.Parts.{make-parts}
 use Rattle.demands.proofs.Exact.{fits-idle}
 use Rattle.demands.proofs.Whole64.{known64, ask64}
+use Rattle.demands.proofs.Content.{Answers, content-told}
 use Rattle.demands.proofs.Reached.{reached, grown, reached64}
 use Rattle.demands.proofs.Edges.{exact-edges, seven, apart}
 use Rattle.demands.proofs.Said.{edges, held-inset, no-smaller, passed, page64, joins-ins, joins64, each-boxed, clear-pairs}
@@ -93,6 +98,10 @@ x-by-side os f = reached os f .answers
 pub y-low-enough : (os : List Act) (c : Call) → Handed F32 os → Each F32 (handed (box c)) → (x y : Float) (k : ℕ) → placeOf (after os .struct) c .answer ≡ PlaceAnswer.At x y k → LowEnough (pageIn (after os)) (cleaned c) y
 unfolding placeOf
 y-low-enough os c f g x y k e = subst (Lies (pageIn (after os)) (cleaned c)) e (place-ok (pageIn (after os)) (after os .accepted) c (reached os f) g .lies)
+
+-- a content question at a height, with insets 0, no clear and after none, answers that height and what stands there
+pub content-insets : (os : List Act) → Handed F32 os → (h : Float) → F32 h → (s : ContentSlot) → content (pageIn (after os)) (contentAt h) ≡ ContentAnswer.Slot s → Between (pageIn (after os)) (plusZero h) s
+content-insets os f h g s e = subst (Answers (pageIn (after os)) (plusZero h)) e (content-told (pageIn (after os)) h (reached os f .chain) g)
 
 -- ---- if every number handed in was whole 64ths
 

@@ -9,7 +9,9 @@ use lib.Ieee.{Float, binary32, fits as fits-in, add, sub, lt, le, eq}
 use lib.ListN.{length, getD}
 use Rattle.f32_laws.specs.Numbers.{larger, zero+, is64}
 use Rattle.f32_laws.specs.Sixty.{in64}
+use Rattle.float.specs.declared.BandNumber.{BandNumber}
 use Rattle.float.specs.declared.Bottom.{Bottom}
+use Rattle.float.specs.declared.ContentSlot.{ContentSlot}
 use Rattle.float.specs.declared.FloatContext.{FloatContext}
 use Rattle.float.specs.declared.FloatDirection.{FloatDirection}
 use Rattle.float.specs.declared.PlaceAnswer.{PlaceAnswer}
@@ -23,6 +25,7 @@ use Rattle.float.specs.Page.{Page, pageOf, freshContext, noBox}
 use Rattle.float.specs.Clear.{cleared}
 use Rattle.float.specs.Fit.{placedAt}
 use Rattle.float.specs.Place.{Call, cleaned, inside, placeOf, widthOf}
+use Rattle.float.specs.Slot.{ContentCall}
 
 -- ---- lists
 
@@ -194,6 +197,18 @@ shareHeight a b = lt (a .y) (bottom b) && lt (b .y) (bottom a)
 -- the rectangles that the answers give have a point inside in common
 abbrev pub overlap : Accepted → Accepted → Bool
 overlap a b = shareHeight a b && lt (a .x) (rightEdge b) && lt (b .x) (rightEdge a)
+
+-- ---- a content question
+
+-- at the height h, with insets 0, no clear and after none
+abbrev pub contentAt : Float → ContentCall
+contentAt h = record { minY = h; left = zero+; right = zero+; clear = 0; after = BandNumber.None }
+
+-- the slot lies at the height y, between the insets that stand there
+pub record Between (p : Page) (y : Float) (s : ContentSlot) : Type 0 where
+  pub at : s .y ≡ y
+  pub left : s .x ≡ insetAt FloatDirection.Left y (p .bands)
+  pub room : s .width ≡ sub binary32 (sub binary32 (p .width) (insetAt FloatDirection.Left y (p .bands))) (insetAt FloatDirection.Right y (p .bands))
 
 -- ---- the fit test with 0.001 left out
 
