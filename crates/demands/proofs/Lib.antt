@@ -2,6 +2,7 @@
 pub mod Laws
 pub mod Chain
 pub mod Heights
+pub mod Turns
 pub mod Seek
 pub mod Make
 pub mod Parts
