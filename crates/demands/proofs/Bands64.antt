@@ -28,7 +28,7 @@ use Rattle.demands.specs.Runs.{Each, insetAt}
 use Rattle.demands.proofs.Laws.{k, far-twice, Val, Ins, Top, on-either, top-low}
 use Rattle.demands.proofs.Chain.{Chain, chain-at, chain-next, chain-last, last-is}
 use Rattle.demands.proofs.Heights.{at-band, at-below}
-use Rattle.demands.proofs.Seek.{Holds, Count, Found}
+use Rattle.demands.proofs.Seek.{Count, Found}
 use Rattle.demands.proofs.Make.{seed-has, started-y}
 use Rattle.demands.proofs.Lists.{each-append}
 use Rattle.demands.proofs.Exact.{g, Q, q-key, q-zero, q-larger, q-sum, sum-exact, diff-count, count-of, count-add, count-le, cancel, Ask64}
@@ -83,10 +83,6 @@ module _ (l : List Segment) (c : Chain (inf true) l) (p : Each Band64 l) where
       go zero h (inr e) = absurd (not-suc-le-zero {n = 0} (omega (arith, ap k e, ap k (chain-first (inf true) l c h), larger-key (v .num) (chain-at (inf true) l 0 c h .start .num), v .low, far-twice)))
       go (suc i) h (inr e) = subst Q (sym (e ∙ chain-next (inf true) l i c h)) (band-at l i p (omega arith) .end)
 
-  pub in-band : (s : ℕ) (y : Float) → s < length l → Holds (getD l s none) y → k y ≤ k (getD l s none .end)
-  in-band s y h (inl e) = omega (arith, chain-at (inf true) l s c h .order)
-  in-band s y h (inr e) = omega arith
-
   pub next64 : (e : ℕ) (y z : Float) → suc e < length l → Way e y z → Way (suc e) y (add binary64 z (sub binary32 (getD l (suc e) none .end) (getD l (suc e) none .start)))
   next64 e y z h w =
       let d = diff-count (band-at l (suc e) p h .end) (band-at l e p (w .0) .end) (omega (arith, ap k (chain-next (inf true) l e c h), chain-at (inf true) l (suc e) c h .order)) in
@@ -118,7 +114,7 @@ module _ (l : List Segment) (c : Chain (inf true) l) (p : Each Band64 l) where
     ok-lead = λ r i h. band-at l i p h .inset r;
     ok-rise = rise;
     Has = Way;
-    open' = λ s y h v q a o. let d = diff-count (band-at l s p h .end) q (in-band s y h o) in (h, v, q, (d .0, d .1, omega (arith, d .2), omega (arith, d .3)));
+    open' = λ s y h v q a o. let d = diff-count (band-at l s p h .end) q o in (h, v, q, (d .0, d .1, omega (arith, d .2), omega (arith, d .3)));
     next = next64;
     skip = λ e y z h w. (h, w .1, w .2, (w .3 .0, w .3 .1, omega (arith, w .3 .2, ap k (chain-next (inf true) l e c h), chain-at (inf true) l (suc e) c h .order), w .3 .3));
   }

@@ -27,7 +27,7 @@ use Rattle.demands.specs.Runs.{F32, insetAt, contentAt, Between}
 use Rattle.demands.proofs.Laws.{k, Val, Ins, ins-zero, zero-k}
 use Rattle.demands.proofs.Chain.{Chain, chain-at}
 use Rattle.demands.proofs.Heights.{at-is}
-use Rattle.demands.proofs.Seek.{first-end}
+use Rattle.demands.proofs.Splits.{first-end}
 use Rattle.demands.proofs.Input.{known, check-both, plus-fits}
 
 -- ---- the first band below a height, from the top

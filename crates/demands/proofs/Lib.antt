@@ -3,9 +3,9 @@ pub mod Laws
 pub mod Chain
 pub mod Heights
 pub mod Turns
+pub mod Splits
 pub mod Seek
 pub mod Make
-pub mod Parts
 pub mod Input
 pub mod Lists
 pub mod Whole

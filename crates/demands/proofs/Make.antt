@@ -25,7 +25,7 @@ use Rattle.float.specs.Place.{Made, seed, endOf, gapped, belowAll, walked, insi
 use Rattle.demands.proofs.Laws.{k, Val, Ins, Top, on-either, ins-zero, top-low, val-top, top-larger, sum-val, sum-grows}
 use Rattle.demands.proofs.Chain.{Sound, Chain, chain-at, chain-next, chain-last, last-val, chain-append, last-append, chain-split, length-split, split-lead, split-start, split-upper, split-lower, split-end, last-is, old, old-le, old-gt, mark-in, mark-after, mark-trail, length-mark}
 use Rattle.demands.proofs.Heights.{Grows, grows-refl, grows-trans, grows-append, grows-split}
-use Rattle.demands.proofs.Seek.{Falls, Asked, Holds, Count, Fit, Found}
+use Rattle.demands.proofs.Seek.{Falls, Asked, Count, Fit, Found}
 
 -- ---- what marking does to the falling sides
 module _ (r : FloatDirection) (v : Float) (l : List Segment) (F s e : ℕ) (f : F ≤ s) where
@@ -318,11 +318,11 @@ module _ (l : List Segment) (a : Ask) (F : ℕ) (y0 : Float) (p : Spot) (c : Cha
           (started-ok l a F (p .inset) Deep q (g .cb) c d (p .start) (p .end) (p .y) (g .first) h (g .order) (g .last) (g .y) (f .above) (λ x t. x t) (λ j u w t. omega (arith, f .leads j u w t, f .placed)) b),
     )
 
-    split : k (p .y) < k (getD l (p .start) none .end) → Done (startedAt a (splitAt l (p .start) (p .y)) (suc (p .start)) (suc (p .end)) (p .y))
-    split x = subst (λ (t : Float). (Val t × (k (p .y) ≤ k t)) × (T (inReach (add binary32 t (a .height))) → MadeOk l a F (p .inset) Deep 2 (startedAt a m (suc (p .start)) (suc (p .end)) (p .y)))) (sym (started-y a m (suc (p .start)) (suc (p .end)) (p .y))) (
+    split : Done (startedAt a (splitAt l (p .start) (p .y)) (suc (p .start)) (suc (p .end)) (p .y))
+    split = subst (λ (t : Float). (Val t × (k (p .y) ≤ k t)) × (T (inReach (add binary32 t (a .height))) → MadeOk l a F (p .inset) Deep 2 (startedAt a m (suc (p .start)) (suc (p .end)) (p .y)))) (sym (started-y a m (suc (p .start)) (suc (p .end)) (p .y))) (
       (g .y, omega arith),
-      λ b. widen m (startedAt a m (suc (p .start)) (suc (p .end)) (p .y)) F (omega arith) (grows-split (inf true) l (p .start) (p .y) c (g .y) (omega arith)) (omega (arith, n))
-          (started-ok m a F (p .inset) Deep q (g .cb) (chain-split (inf true) l (p .start) (p .y) c (g .y) (f .above) (omega arith)) (either-split (a .side) F l (p .start) (p .y) (g .first) h d) (suc (p .start)) (suc (p .end)) (p .y) (omega (arith, g .first)) (omega (arith, n)) (omega (arith, g .order)) (omega (arith, n, g .last)) (g .y) (omega (arith, ap k (split-lower l (p .start) (p .y) h))) (λ x t. omega (arith, ap k (split-end l (p .start) (p .y) (p .end) (g .order)), x (omega (arith, n))))
+      λ b. widen m (startedAt a m (suc (p .start)) (suc (p .end)) (p .y)) F (omega arith) (grows-split (inf true) l (p .start) (p .y) c (g .y) (f .upTo)) (omega (arith, n))
+          (started-ok m a F (p .inset) Deep q (g .cb) (chain-split (inf true) l (p .start) (p .y) c (g .y) (f .above) (f .upTo)) (either-split (a .side) F l (p .start) (p .y) (g .first) h d) (suc (p .start)) (suc (p .end)) (p .y) (omega (arith, g .first)) (omega (arith, n)) (omega (arith, g .order)) (omega (arith, n, g .last)) (g .y) (omega (arith, ap k (split-lower l (p .start) (p .y) h))) (λ x t. omega (arith, ap k (split-end l (p .start) (p .y) (p .end) (g .order)), x (omega (arith, n))))
           (λ j u w t. let o = old-gt (p .start) j (omega arith) in omega (arith, ap k (split-lead (a .side) l (p .start) (p .y) j), f .placed, f .leads (old (p .start) j) (omega arith) (omega arith) (omega (arith, n)))) b),
     )
       where
@@ -340,10 +340,6 @@ module _ (l : List Segment) (a : Ask) (F : ℕ) (y0 : Float) (p : Spot) (c : Cha
       let f = g .fit h in
       both Done (eq (p .y) (getD l (p .start) none .start))
       (λ u. unsplit h f)
-      (λ u. split h f (go (f .holds) u h)))
+      (λ u. split h f))
       (λ t. let v = top-larger (chain-last (inf true) l top-low c) (g .y) in
       ((v, omega (arith, larger-key (chain-last (inf true) l top-low c .num) (g .y .num))), λ b. below-ok l a F (p .inset) Deep q (g .cb) c (p .y) z (g .y) b))
-    where
-      go : Holds (getD l (p .start) none) (p .y) → T (not (eq (p .y) (getD l (p .start) none .start))) → p .start < length l → k (p .y) < k (getD l (p .start) none .end)
-      go (inl e) u h = absurd (T-not (eq (p .y) (getD l (p .start) none .start)) u (key→eq (g .y .num) (chain-at (inf true) l (p .start) c h .start .num) e))
-      go (inr e) u h = e

@@ -13,20 +13,21 @@ use Rattle.float.specs.declared.FloatContext.{FloatContext}
 use Rattle.float.specs.declared.FloatDirection.{FloatDirection}
 use Rattle.float.specs.declared.PlaceAnswer.{PlaceAnswer}
 use Rattle.float.specs.declared.Refusal.{Refusal}
+use Rattle.float.specs.declared.Segment.{Segment}
+use Rattle.float.specs.declared.fit.Ask.{Ask}
 use Rattle.float.specs.declared.refuse.Check.{Check}
 use Rattle.float.specs.Numbers.{plusZero}
 use Rattle.float.specs.Refuse.{sideOf}
 use Rattle.float.specs.Bands.{sameSide, other, lead, none}
 use Rattle.float.specs.Page.{Page, pageOf, stored}
 use Rattle.float.specs.Fit.{fits}
-use Rattle.float.specs.Place.{Call, cleaned, numbers, inputCheck, lowest, firstOf, askOf, spotOf, make, place, placedPage, placeOf, setWidth, widthOf, ifDone}
+use Rattle.float.specs.Place.{Call, cleaned, numbers, inputCheck, askOf, spotOf, place, placedPage, placeOf, setWidth, widthOf, ifDone}
 use Rattle.float.specs.Slot.{content}
-use Rattle.demands.specs.Runs.{Each, Pairs, Act, box, boxIn, next, run, after, pageIn, bandsIn, Stays, handed, Handed, F32, Whole64, insetAt, NoSmaller, EdgeToEdge, Parted, sideIn, containingLead, containingTrail, xFrom, bottom, rightEdge, farInset, LowEnough, ExactSum, contentAt, Between, sized, shareHeight, overlap, fitsExactly, Joins, Page64}
-use Rattle.demands.proofs.Seek.{no-count}
+use Rattle.demands.specs.Runs.{Each, Pairs, Act, box, boxIn, next, run, after, pageIn, bandsIn, Stays, handed, Handed, F32, Whole64, insetAt, NoSmaller, EdgeToEdge, StartSplit, EndSplit, sideIn, containingLead, containingTrail, xFrom, bottom, rightEdge, farInset, LowEnough, ExactSum, contentAt, Between, sized, shareHeight, overlap, fitsExactly, Joins, Page64}
+use Rattle.demands.proofs.Splits.{start-split, end-split}
 use Rattle.demands.proofs.Input.{cleaned-fits}
-use Rattle.demands.proofs.Whole.{StepsTo, Lies, spot-ok, place-ok}
+use Rattle.demands.proofs.Whole.{StepsTo, Lies, spot-in, place-ok}
 use Rattle.demands.proofs.Structs.{page-placed}
-use Rattle.demands.proofs.Parts.{make-parts}
 use Rattle.demands.proofs.Exact.{fits-idle}
 use Rattle.demands.proofs.Whole64.{known64, ask64}
 use Rattle.demands.proofs.Content.{Answers, content-told}
@@ -65,13 +66,16 @@ pub steps-at-most : (os : List Act) (c : Call) → Handed F32 os → Each F32 (h
 unfolding placeOf
 steps-at-most os c f g x y k e = subst (StepsTo (length (bandsIn (after os)))) e (place-ok (pageIn (after os)) (after os .accepted) c (reached os f) g .steps)
 
--- every split on the way to the bands that it then marks falls strictly inside its band
-pub splits-inside : (os : List Act) (c : Call) → Handed F32 os → Each F32 (handed (box c)) → inputCheck (cleaned c) ≡ Check.Passed
-    → Parted (bandsIn (after os)) (make (askOf (pageIn (after os)) (cleaned c)) (bandsIn (after os)) (spotOf (pageIn (after os)) (cleaned c)) .bands)
-splits-inside os c f g e =
+-- the start band is left whole or split strictly inside; then so is the end band, of the bands as they stand
+pub splits-inside : (os : List Act) (c : Call) → Handed F32 os → Each F32 (handed (box c)) → inputCheck (cleaned c) ≡ Check.Passed → spotOf (pageIn (after os)) (cleaned c) .start < length (bandsIn (after os))
+    → StartSplit (askOf (pageIn (after os)) (cleaned c)) (bandsIn (after os)) (spotOf (pageIn (after os)) (cleaned c))
+splits-inside os c f g e h =
     let p = pageIn (after os) in
     let v = reached os f in
-    make-parts (p .bands) (askOf p (cleaned c)) (firstOf p) (lowest p (cleaned c)) (spotOf p (cleaned c)) (no-count (p .bands)) (v .chain) (spot-ok p (after os .accepted) (cleaned c) v (passed c g e .0) (no-count (p .bands)) tt tt)
+    start-split (p .bands) (askOf p (cleaned c)) (v .chain) (spotOf p (cleaned c)) (spot-in p (after os .accepted) (cleaned c) v (passed c g e .0)) h
+
+pub end-splits-inside : (a : Ask) (l : List Segment) (s e : ℕ) (y : Float) → e < length l → EndSplit a l s e y
+end-splits-inside = end-split
 
 -- a refused call hands back the very struct, whichever it was given
 pub refused-box : (p : FloatContext) (c : Call) (n : Refusal) → placeOf p c .answer ≡ PlaceAnswer.Refused n → placeOf p c .page ≡ p

@@ -35,7 +35,9 @@ use Rattle.demands.specs.Runs.{Each, Pairs, Accepted, boxIn, lastInset, 
 use Rattle.demands.proofs.Laws.{k, Val, Ins, on-either, ins-zero, ins-val, sum-val, sum-ins, sum-grows}
 use Rattle.demands.proofs.Chain.{Chain, chain-at, chain-mark, length-mark}
 use Rattle.demands.proofs.Heights.{Grows, grows-refl, grows-trans, grows-mark}
-use Rattle.demands.proofs.Seek.{Falls, Asked, Count, no-count, Found, search-law, first-le, first-ge, first-end, first-far}
+use Rattle.demands.proofs.Turns.{search-steps}
+use Rattle.demands.proofs.Splits.{first-end, Taken, start-in}
+use Rattle.demands.proofs.Seek.{Falls, Asked, Count, no-count, Found, search-law, first-le, first-ge, first-far}
 use Rattle.demands.proofs.Make.{MadeOk, make-ok}
 use Rattle.demands.proofs.Input.{Known, known, check-both, plus-fits, cleaned-fits, asked, bottomOn, BottomIs, AtMost, lower-is, counted-is, lowest-is, larger-val, ceiling-keeps, ceiling-takes, lowest-over, low-enough}
 use Rattle.demands.proofs.Lists.{each-append, pairs-append, each-map}
@@ -206,7 +208,7 @@ module _ (p : Page) (g : List Accepted) (a : Ask) (i : Float) (m : Made) (v : In
       K x = x .first ≤ x .past
 
 -- ---- a placement whose input is in order
-module _ (p : Page) (g : List Accepted) (c : Call) (s : Spot) (v : Inv p g) (q : Asked (askOf p c)) (h : (z : Float) → AtMost z (p .ceiling) → k z ≤ k (lowest p c)) (e : (y : Float) → Val y → k (lowest p c) ≤ k y → LowEnough p c y) (n : length (p .boxes) < maxBoxes) (H : Count (p .bands)) (f : Found (p .bands) (askOf p c) (firstOf p) (lowest p c) H s) where
+module _ (p : Page) (g : List Accepted) (c : Call) (s : Spot) (v : Inv p g) (q : Asked (askOf p c)) (h : (z : Float) → AtMost z (p .ceiling) → k z ≤ k (lowest p c)) (e : (y : Float) → Val y → k (lowest p c) ≤ k y → LowEnough p c y) (n : length (p .boxes) < maxBoxes) (few : s .steps ≤ length (p .bands) + length (p .bands)) (H : Count (p .bands)) (f : Found (p .bands) (askOf p c) (firstOf p) (lowest p c) H s) where
   put-ok : Step p g c (put p (askOf p c) s)
   unfolding put flat high
   put-ok =
@@ -216,7 +218,7 @@ module _ (p : Page) (g : List Accepted) (c : Call) (s : Spot) (v : Inv p g) (q :
         inv = counted-ok p g c a (s .inset) (xOf a (s .inset)) (s .y) v q (f .y) (and-l (inReach (add binary32 (s .y) (a .height))) (inReach (add binary32 (s .inset) (a .width))) u) n (λ z o. omega (arith, f .low, h z o)) refl lead refl;
         grows = grows-refl (p .bands);
         more = omega arith;
-        steps = f .steps;
+        steps = few;
         lies = e (s .y) (f .y) (f .low);
       })
       (λ u. refuse-ok p g c Refusal.TooFar v))
@@ -229,7 +231,7 @@ module _ (p : Page) (g : List Accepted) (c : Call) (s : Spot) (v : Inv p g) (q :
         inv = counted-ok (recorded p a (s .inset) m) g c a (s .inset) (xOf a (s .inset)) (m .y) (recorded-ok p g a (s .inset) m v q (f .inset) z l D o) q (d .0 .0) x n (λ z o. omega (arith, f .low, d .0 .1, h z o)) refl lead refl;
         grows = recorded-grows p g a (s .inset) m v q (f .inset) z l D o;
         more = recorded-more p g a (s .inset) m v q (f .inset) z l D o;
-        steps = f .steps;
+        steps = few;
         lies = e (m .y) (d .0 .0) (omega (arith, f .low, d .0 .1));
       })
       (λ w. refuse-ok p g c Refusal.BandsFull v))
@@ -266,7 +268,7 @@ module _ (p : Page) (g : List Accepted) (c : Call) (v : Inv p g) (n : Each Known
   unfolding spotOf
   spot-ok H o o' =
       search-law l (askOf p c) (firstOf p) y H (v .chain) (asked p c (v .width) n) o (firstBelow l m y) (go (decLe m (length l))) (first-le l m y) lowest-val o'
-      (λ h. lt→key (lowest-val .num) (chain-at (inf true) l (firstBelow l m y) (v .chain) h .end .num) (first-end l m y h))
+      (λ h. omega (arith, lt→key (lowest-val .num) (chain-at (inf true) l (firstBelow l m y) (v .chain) h .end .num) (first-end l m y h)))
       (v .falls (sideOf (c .side)))
     where
       l : List Segment
@@ -282,11 +284,19 @@ module _ (p : Page) (g : List Accepted) (c : Call) (v : Inv p g) (n : Each Known
       go (yes d) = omega (arith, first-ge l m y d, allowed-ok (clearOf (c .clear)))
       go (no d) = omega (arith, first-far l m y (omega arith), v .first)
 
+  pub spot-in : Taken (p .bands) (askOf p c) (v .chain) (spotOf p c)
+  unfolding spotOf
+  spot-in = start-in (p .bands) (askOf p c) (v .chain) _ _ (first-le (p .bands) _ _) (lowest-val .num) (first-end (p .bands) _ _)
+
+spot-steps : (p : Page) (c : Call) → spotOf p c .steps ≤ length (p .bands) + length (p .bands)
+unfolding spotOf
+spot-steps p c = search-steps (p .bands) (askOf p c) _ _ (first-le (p .bands) _ _)
+
 admitted-ok : (p : Page) (g : List Accepted) (c : Call) → Inv p g → Each Known (numbers c) → Step p g c (admitted p c)
 unfolding admitted
 admitted-ok p g c v n =
     both (Step p g c) (ltb (length (p .boxes)) maxBoxes)
-    (λ w. put-ok p g c (spotOf p c) v (asked p c (v .width) n) (lowest-over p c (n .1 .1 .0) (v .ceiling) (v .bottom)) (low-enough p c (n .1 .1 .0) (v .ceiling) (v .bottom)) (ltb→lt (length (p .boxes)) maxBoxes w) (no-count (p .bands)) (spot-ok p g c v n (no-count (p .bands)) tt tt))
+    (λ w. put-ok p g c (spotOf p c) v (asked p c (v .width) n) (lowest-over p c (n .1 .1 .0) (v .ceiling) (v .bottom)) (low-enough p c (n .1 .1 .0) (v .ceiling) (v .bottom)) (ltb→lt (length (p .boxes)) maxBoxes w) (spot-steps p c) (no-count (p .bands)) (spot-ok p g c v n (no-count (p .bands)) tt tt))
     (λ w. refuse-ok p g c Refusal.BoxesFull v)
 
 -- one placement

@@ -1,5 +1,6 @@
 -- Any sequence of calls from a fresh page, the page after it and the placements that it had accepted; and the words of the promises. Definitions only.
-use Prim.Native.Nat.{ℕ, _-_, _^_, _≤_, _<_}
+use mathlib.Core.Logic.{_⊎_}
+use Prim.Native.Nat.{ℕ, suc, _-_, _^_, _≤_, _<_}
 use mathlib.Core.Path.{_≡_}
 use mathlib.Core.Bool.{Bool, true, false, _&&_, _||_}
 use mathlib.Core.List.{List, [], _∷_, _++_}
@@ -18,13 +19,14 @@ use Rattle.float.specs.declared.PlaceAnswer.{PlaceAnswer}
 use Rattle.float.specs.declared.PlacedFloatedBox.{PlacedFloatedBox}
 use Rattle.float.specs.declared.Segment.{Segment}
 use Rattle.float.specs.declared.fit.Ask.{Ask}
+use Rattle.float.specs.declared.search.Spot.{Spot}
 use Rattle.float.specs.Numbers.{most, least, plusZero, within}
 use Rattle.float.specs.Refuse.{sideOf, clearOf}
 use Rattle.float.specs.Bands.{onSide, lead, none, splitAt}
 use Rattle.float.specs.Page.{Page, pageOf, freshContext, noBox}
 use Rattle.float.specs.Clear.{cleared}
 use Rattle.float.specs.Fit.{placedAt}
-use Rattle.float.specs.Place.{Call, cleaned, inside, placeOf, widthOf}
+use Rattle.float.specs.Place.{Call, cleaned, walked, startedAt, make, placeOf, widthOf}
 use Rattle.float.specs.Slot.{ContentCall}
 
 -- ---- lists
@@ -137,11 +139,22 @@ abbrev pub EdgeToEdge : Float → List Segment → Type 0
 EdgeToEdge x [] = Unit {0}
 EdgeToEdge x (b ∷ bs) = (b .start ≡ x) × T (le (b .start) (b .end)) × EdgeToEdge (b .end) bs
 
--- bands that come of l by splits strictly inside a band, and by adding at the end
-pub data Parted (l : List Segment) : List Segment → Type 0 where
-  as-is : Parted l l
-  split : {m : List Segment} (i : ℕ) (y : Float) → Parted l m → i < length m → T (inside (getD m i none) y) → Parted l (splitAt m i y)
-  added : {m : List Segment} (b : Segment) → Parted l m → Parted l (m ++ b ∷ [])
+-- what the crate's `assert!` asks of a split: y is strictly inside the band
+abbrev pub StrictlyIn : Segment → Float → Type 0
+StrictlyIn b y = T (lt (b .start) y) × T (lt y (b .end))
+
+-- the start band, found at p, is left whole, or split at y strictly inside it
+abbrev pub StartSplit : Ask → List Segment → Spot → Type 0
+StartSplit a l p =
+    (make a l p ≡ startedAt a l (p .start) (p .end) (p .y))
+    ⊎ (StrictlyIn (getD l (p .start) none) (p .y) × (make a l p ≡ startedAt a (splitAt l (p .start) (p .y)) (suc (p .start)) (suc (p .end)) (p .y)))
+
+-- and of the bands as they then stand, the end band at the bottom
+abbrev pub EndSplit : Ask → List Segment → ℕ → ℕ → Float → Type 0
+EndSplit a l s e y =
+    let b = add binary32 y (a .height) in
+    let i = walked l s b e in
+    (startedAt a l s e y .bands ≡ l) ⊎ (StrictlyIn (getD l i none) b × (startedAt a l s e y .bands ≡ splitAt l i b))
 
 -- ---- accepted placements
 
