@@ -172,7 +172,7 @@ module _ (p : Page) (g : List Accepted) (c : Call) (v : Inv64 p g) (q : Ask64 (a
   abbrev Deep : Type 0
   Deep = s .end < length (p .bands) → k (add binary32 (s .y) (c .height)) ≤ k (getD (p .bands) (s .end) none .end)
 
-  stands-new : MadeOk (p .bands) ask (firstOf p) (s .inset) Deep 2 M → Ins (add binary32 (s .inset) (c .width)) → Stands (recorded p ask (s .inset) M .bands) (entry (M .y))
+  stands-new : MadeOk (p .bands) ask (firstOf p) (s .inset) Deep M → Ins (add binary32 (s .inset) (c .width)) → Stands (recorded p ask (s .inset) M .bands) (entry (M .y))
   stands-new o iv t n x =
       let r = ask .side in
       let e = add binary32 (s .inset) (c .width) in
@@ -220,7 +220,7 @@ module _ (p : Page) (g : List Accepted) (c : Call) (v : Inv64 p g) (q : Ask64 (a
       edge : (y : Float) → T (near ask (s .inset) y) → Q (add binary32 (s .inset) (c .width))
       edge y u = q-sum (f .inset-ok) (q .width) (ins-val (f .inset)) (q .asked .width) (and-r (inReach (add binary32 y (c .height))) (inReach (add binary32 (s .inset) (c .width))) u)
 
-      made : (Val (M .y) × (k (s .y) ≤ k (M .y))) × (T (inReach (add binary32 (M .y) (c .height))) → MadeOk (p .bands) ask (firstOf p) (s .inset) Deep 2 M)
+      made : (Val (M .y) × (k (s .y) ≤ k (M .y))) × (T (inReach (add binary32 (M .y) (c .height))) → MadeOk (p .bands) ask (firstOf p) (s .inset) Deep M)
       made = make-ok (p .bands) ask (firstOf p) y0 s (v .inv .chain) (q .asked) (v .inv .falls (ask .side)) (v .inv .first) (count64 (p .bands) (v .inv .chain) (v .bands)) f
 
       empty : (t' : Float) → T (eq (c .height) zero+) → Inside (entry (s .y)) t' → ⊥

@@ -24,7 +24,7 @@ use Rattle.float.specs.Page.{Page}
 use Rattle.float.specs.Clear.{raiseTo, cleared, clearedPast}
 use Rattle.float.specs.Slot.{active, seek, contentSlot, content}
 use Rattle.demands.specs.Runs.{F32, insetAt, contentAt, Between}
-use Rattle.demands.proofs.Laws.{k, Val, Ins, ins-zero, zero-k}
+use Rattle.demands.proofs.Laws.{k, Val, ins-zero, zero-k}
 use Rattle.demands.proofs.Chain.{Chain, chain-at}
 use Rattle.demands.proofs.Heights.{at-is}
 use Rattle.demands.proofs.Splits.{first-end}

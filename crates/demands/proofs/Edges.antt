@@ -103,7 +103,7 @@ module _ (w : Float) (wq : Q w) (wi : Ins w) where
         d (omega (arith, zero-k)) (larger (a .y) (b .y)) (larger-num n n') (omega arith, omega (arith, sum-exact (p .y) (p .height), zero-k)) (omega arith, omega (arith, sum-exact (q .y) (q .height), zero-k))
 
     -- rule 7
-    pub seven : T (sameSide (sideIn a) (sideIn b)) → T (sized a) → T (sized b) → T (shareHeight a b) → T (le (add binary32 (b .inset) (b .call .width)) (sub binary32 w (containingTrail b)))
+    pub seven : T (sameSide (sideIn a) (sideIn b)) → T (sized a) → T (sized b) → T (shareHeight a b) → T (le (farInset b) (sub binary32 w (containingTrail b)))
     seven o s s' h =
         let c = go (sameSide (sideIn a) (sideIn b)) o (shared s s' h) in
         key→le (sum-num (ins-val (q .inset')) (q .width')) (sub-num (ins-fin wi) (ins-fin (q .trail'))) (omega (arith, c, sum-exact (q .inset) (q .width), diff-exact wq (q .trail)))

@@ -4,7 +4,7 @@ use mathlib.Core.Logic.{_⊎_, inl, inr}
 use Prim.Native.Nat.{ℕ, _+_, _-_, _*_, _^_, _≤_, _<_}
 use native.Mathlib.Nat.{le-of-mul-le-mul-right}
 use native.Mathlib.Omega.{arith}
-use mathlib.Core.Bool.{Bool, true, false, _&&_, _||_}
+use mathlib.Core.Bool.{Bool, _&&_, _||_}
 use lib.IntN.{pos}
 use lib.Dec.{T, leb→le}
 use lib.Ieee.{Float, binary32, binary64, add, sub, le, eq}
@@ -23,7 +23,7 @@ use Rattle.float.specs.declared.fit.Ask.{Ask}
 use Rattle.float.specs.Numbers.{inReach}
 use Rattle.float.specs.Fit.{passes, placedAt, fits}
 use Rattle.demands.specs.Runs.{passesExactly, fitsExactly}
-use Rattle.demands.proofs.Laws.{k, B, Val, Ins, ins-val, ins-fin, ins-zero, zero-k, larger-ins, sum-num, farthest-num}
+use Rattle.demands.proofs.Laws.{k, B, Val, Ins, ins-val, ins-fin, ins-zero, zero-k, larger-ins, sum-num, farthest-num, or-right}
 use Rattle.demands.proofs.Seek.{Asked}
 
 abbrev pub g : ℕ
@@ -89,10 +89,6 @@ q-sum p q v w t =
     let h : p .n + q .n - mid ≤ mid + half = cancel (p .n + q .n - mid) (mid + half)
     (let m = p .n + q .n - mid in omega (arith, ap k (sum-at p q), at64-key m (omega (arith, p .high, q .high, two)), le→key (sum-num v w) farthest-num t, farthest-mag)) in
     record { n = p .n + q .n - mid; is = sum-at p q; low = omega (arith, p .low, q-up q (w .low)); high = h }
-
-or-right : (a b : Bool) → (T a → ⊥) → T (a || b) → T b
-or-right true b n h = absurd (n tt)
-or-right false b n h = h
 
 -- ---- the 0.001
 -- what is asked of a place, in 64ths

@@ -35,7 +35,7 @@ num-of nan f t = absurd t
 num-of (inf s) f t = record { is = tt }
 num-of (fin s m e) f t = record { is = f }
 
-most-mag : mag binary32 1 (pos 16) ≤ mag binary32 1 (pos 17)
+pub most-mag : mag binary32 1 (pos 16) ≤ mag binary32 1 (pos 17)
 unfolding mag
 most-mag = lit≤ tt
 
@@ -73,6 +73,21 @@ pub known : (gs : List Given) → Each (λ g. F32 (value g)) gs → T (allFinite
 unfolding allFinite allAllowed
 known [] f t w = tt
 known (g ∷ gs) f t w = (known-one g (f .0) (and-l (finite (value g)) (allFinite gs) t) (and-l (allowed g) (allAllowed gs) w), known gs (f .1) (and-r (finite (value g)) (allFinite gs) t) (and-r (allowed g) (allAllowed gs) w))
+
+-- the sizes of a call are at most 65,536
+pub sizes : (c : Call) → T (allAllowed (numbers c)) → T (le (c .width) most) × ((r : FloatDirection) → T (le (onSide r (c .left) (c .right)) most))
+unfolding allAllowed within
+sizes c t =
+    let h = and-r (allowed (size (c .width))) (allAllowed (size (c .height) ∷ offset (c .minY) ∷ size (c .left) ∷ size (c .right) ∷ [])) t in
+    let m = and-r (allowed (size (c .height))) (allAllowed (offset (c .minY) ∷ size (c .left) ∷ size (c .right) ∷ [])) h in
+    let i = and-r (allowed (offset (c .minY))) (allAllowed (size (c .left) ∷ size (c .right) ∷ [])) m in
+    (
+      top (c .width) (and-l (allowed (size (c .width))) _ t),
+      λ r. on-either (λ (x : Float). T (le x most)) r (top (c .left) (and-l (allowed (size (c .left))) _ i)) (top (c .right) (and-l (allowed (size (c .right))) _ (and-r (allowed (size (c .left))) _ i))),
+    )
+  where
+    top : (x : Float) → T (allowed (size x)) → T (le x most)
+    top x t = and-r (le zero+ x) (le x most) t
 
 -- a check's two ways: it refuses with 1, 2 or 3
 pub check-both {ℓ} : {A : Type ℓ} (P : A → Type 0) (b : Bool) (gs : List Given) {x : A} {f : Refusal → A} → (T (allFinite gs) → T (allAllowed gs) → P x) → ((n : Refusal) → numberOf n ≤ 3 → P (f n)) → P (elim (checkOf b gs) [ Check.Passed ↦ x | Check.Refused n ↦ f n ])

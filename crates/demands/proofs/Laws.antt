@@ -65,7 +65,7 @@ val-top p = record { num = p .num; high = p .high }
 pub top-low : Top (inf true)
 top-low = record { num = record { is = tt }; high = omega arith }
 
-val-fin : {x : Float} → Val x → Fin binary32 x
+pub val-fin : {x : Float} → Val x → Fin binary32 x
 val-fin p = fin-of-key (p .num) (omega (arith, far-twice, p .low)) (omega (arith, far-twice, p .high))
 
 pub ins-fin : {x : Float} → Ins x → Fin binary32 x
@@ -117,6 +117,10 @@ or-map true y true y' f g h = tt
 or-map true y false y' f g h = absurd (f tt)
 or-map false y true y' f g h = tt
 or-map false y false y' f g h = g h
+
+pub or-right : (a b : Bool) → (T a → ⊥) → T (a || b) → T b
+or-right true b n h = absurd (n tt)
+or-right false b n h = h
 
 -- one half of it: the inset and the bound may fall, and the far edge
 passes-down : {i i' x x' g t t' : Float} → Ins i → Ins i' → Num binary32 x → Num binary32 x' → Ins g → Ins t → Ins t' → k i ≤ k i' → T (le x x') → k t ≤ k t' → T (passes i' x' g t') → T (passes i x g t)

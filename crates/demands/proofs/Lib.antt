@@ -4,11 +4,13 @@ pub mod Chain
 pub mod Heights
 pub mod Turns
 pub mod Splits
+pub mod More
 pub mod Seek
 pub mod Make
 pub mod Input
 pub mod Lists
 pub mod Whole
+pub mod Reach
 pub mod Structs
 pub mod Exact
 pub mod Bands64

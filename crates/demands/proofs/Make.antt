@@ -4,16 +4,16 @@ use mathlib.Core.Logic.{_⊎_, inl, inr}
 use Prim.Native.Nat.{ℕ, zero, suc, _+_, _-_, _≤_, _<_}
 use native.Mathlib.Decide.{decLe}
 use native.Mathlib.Omega.{arith}
-use mathlib.Core.Bool.{Bool, true, false, not, _&&_, cond}
+use mathlib.Core.Bool.{Bool, true, false, _&&_, cond}
 use mathlib.Core.List.{List, [], _∷_, _++_}
-use lib.Dec.{T, ltb, ltb→lt, nltb→le, T-not}
+use lib.Dec.{T, ltb, ltb→lt, nltb→le}
 use lib.Ieee.{Float, inf, binary32, add, lt, le, eq}
 use lib.Ieee.Fits.{and-l, and-r}
 use lib.ListN.{length, getD, length-append, List·getD-append}
 use lib.Seq.{getD-append-seam}
 use Rattle.f32_laws.specs.Numbers.{larger, zero+}
 use Rattle.f32_laws.proofs.Tests.{both}
-use Rattle.f32_laws.proofs.Keys.{lt→key, nlt→key, le→key, key→eq}
+use Rattle.f32_laws.proofs.Keys.{lt→key, nlt→key, le→key}
 use Rattle.f32_laws.proofs.Larger.{larger-key}
 use Rattle.float.specs.declared.FloatDirection.{FloatDirection}
 use Rattle.float.specs.declared.Segment.{Segment}
@@ -113,10 +113,9 @@ seed-has P a s e p q r = on-either P r (on-either P (a .side) p q) (on-either P 
 
 -- ---- a made place: the bands m for the bands l, with the inset i to be recorded from band F on; on 64ths D says that the counted height is the way down
 module _ (l : List Segment) (a : Ask) (F : ℕ) (i : Float) (D : Type 0) where
-  pub record MadeOk (extra : ℕ) (m : Made) : Type 0 where
+  pub record MadeOk (m : Made) : Type 0 where
     pub chain : Chain (inf true) (m .bands)
     pub grows : Grows l (m .bands)
-    pub more : length (m .bands) ≤ length l + extra
     pub first : F ≤ m .start
     pub order : m .start ≤ m .end
     pub last : m .end < length (m .bands)
@@ -137,11 +136,10 @@ module _ (l : List Segment) (a : Ask) (F : ℕ) (i : Float) (D : Type 0) where
     seed-covers m s e = omega (arith, ap (λ (z : Segment). k (lead (a .side) z)) (getD-append-seam m (seed a s e) [] none), ap k (seed-lead (a .side) s e (a .«cb_lead») (a .«cb_trail»)))
 
     -- rule 6
-    below-ok : (c : Chain (inf true) l) (y : Float) → F ≤ length l → Val y → T (inReach (add binary32 (larger (endOf l) y) (a .height))) → MadeOk 2 (belowAll a l (endOf l) y)
+    below-ok : (c : Chain (inf true) l) (y : Float) → F ≤ length l → Val y → T (inReach (add binary32 (larger (endOf l) y) (a .height))) → MadeOk (belowAll a l (endOf l) y)
     below-ok c y f v b = record {
       chain = chain-append (inf true) G (seed a Y E) (g .0) (sym (g .1)) new;
       grows = grows-trans l G (G ++ seed a Y E ∷ []) (g .2) (grows-append (inf true) G (seed a Y E) (g .0) new);
-      more = omega (arith, len, g .4);
       first = omega (arith, g .3);
       order = omega arith;
       last = omega (arith, len);
@@ -192,8 +190,8 @@ module _ (l : List Segment) (a : Ask) (F : ℕ) (i : Float) (D : Type 0) where
       bot : Val (add binary32 y (a .height))
       bot = sum-val v (q .height) b
 
-      ended-ok : (t : ℕ) → s ≤ t → t ≤ e → (t ≡ e) ⊎ ((suc t ≤ e) × T (le (add binary32 y (a .height)) (getD l (suc t) none .start))) → e < length l → MadeOk 1 (ended l s t y (add binary32 y (a .height)))
-      ended-ok t p r wk x = both (MadeOk 1) (inside (getD l t none) bt)
+      ended-ok : (t : ℕ) → s ≤ t → t ≤ e → (t ≡ e) ⊎ ((suc t ≤ e) × T (le (add binary32 y (a .height)) (getD l (suc t) none .start))) → e < length l → MadeOk (ended l s t y (add binary32 y (a .height)))
+      ended-ok t p r wk x = both MadeOk (inside (getD l t none) bt)
           (λ z. let g = chain-at (inf true) l t c (omega arith) in
           let lo = lt→key (g .start .num) (bot .num) (and-l (lt (getD l t none .start) bt) (lt bt (getD l t none .end)) z) in
           let hi = lt→key (bot .num) (g .end .num) (and-r (lt (getD l t none .start) bt) (lt bt (getD l t none .end)) z) in
@@ -201,7 +199,6 @@ module _ (l : List Segment) (a : Ask) (F : ℕ) (i : Float) (D : Type 0) where
           record {
             chain = chain-split (inf true) l t bt c bot (omega arith) (omega arith);
             grows = grows-split (inf true) l t bt c bot (omega arith);
-            more = omega arith;
             first = f;
             order = p;
             last = omega arith;
@@ -214,7 +211,6 @@ module _ (l : List Segment) (a : Ask) (F : ℕ) (i : Float) (D : Type 0) where
           (λ z. record {
             chain = c;
             grows = grows-refl l;
-            more = omega arith;
             first = f;
             order = p;
             last = omega arith;
@@ -231,14 +227,13 @@ module _ (l : List Segment) (a : Ask) (F : ℕ) (i : Float) (D : Type 0) where
           reach d (inl m) x = subst (λ (z : ℕ). k bt ≤ k (getD l z none .end)) (sym m) (dp d x)
           reach d (inr m) x = omega (arith, le→key (bot .num) (chain-at (inf true) l (suc t) c (omega (arith, m .0)) .start .num) (m .1), ap k (chain-next (inf true) l t c (omega (arith, m .0))))
 
-      past-ok : e ≡ length l → MadeOk 1 (pastLast a l s y (add binary32 y (a .height)))
-      past-ok x = both (MadeOk 1) (lt z bt)
+      past-ok : e ≡ length l → MadeOk (pastLast a l s y (add binary32 y (a .height)))
+      past-ok x = both MadeOk (lt z bt)
           (λ t. let g = seed-sound (val-top zv) bot (omega (arith, lt→key (zv .num) (bot .num) t)) in
           let len = length-append l (seed a z bt ∷ []) in
           record {
             chain = chain-append (inf true) l _ c refl g;
             grows = grows-append (inf true) l _ c g;
-            more = omega arith;
             first = f;
             order = omega arith;
             last = omega arith;
@@ -250,7 +245,6 @@ module _ (l : List Segment) (a : Ask) (F : ℕ) (i : Float) (D : Type 0) where
           (λ t. record {
             chain = c;
             grows = grows-refl l;
-            more = omega arith;
             first = f;
             order = omega arith;
             last = omega arith;
@@ -273,9 +267,9 @@ module _ (l : List Segment) (a : Ask) (F : ℕ) (i : Float) (D : Type 0) where
           upTo j m n (yes p) = subst (λ (t : ℕ). k (lead (a .side) (getD (l ++ seed a z bt ∷ []) t none)) ≤ k i) {x = length l} {y = j} (omega arith) (seed-covers l z bt)
           upTo j m n (no p) = omega (arith, ap (λ (z : Segment). k (lead (a .side) z)) (List·getD-append l (seed a z bt ∷ []) none j (omega arith)), w j m (omega arith) (omega arith))
 
-      started-ok : MadeOk 1 (startedAt a l s e y)
+      started-ok : MadeOk (startedAt a l s e y)
       started-ok =
-          both (MadeOk 1) (ltb e (length l))
+          both MadeOk (ltb e (length l))
           (λ t. let x = walked-ok l s (add binary32 y (a .height)) e o in ended-ok (walked l s (add binary32 y (a .height)) e) (x .0) (x .1) (x .2) (ltb→lt e (length l) t))
           (λ t. past-ok (omega (arith, nltb→le e (length l) t)))
 
@@ -293,14 +287,13 @@ module _ (l : List Segment) (a : Ask) (F : ℕ) (y0 : Float) (p : Spot) (c : Cha
   Deep = p .end < length l → k (add binary32 (p .y) (a .height)) ≤ k (getD l (p .end) none .end)
 
   abbrev Done : Made → Type 0
-  Done m = (Val (m .y) × (k (p .y) ≤ k (m .y))) × (T (inReach (add binary32 (m .y) (a .height))) → MadeOk l a F (p .inset) Deep 2 m)
+  Done m = (Val (m .y) × (k (p .y) ≤ k (m .y))) × (T (inReach (add binary32 (m .y) (a .height))) → MadeOk l a F (p .inset) Deep m)
 
-  -- one more band than a list that has at most one more than l, and grows from it
-  widen : (m : List Segment) (r : Made) (F' : ℕ) → F ≤ F' → Grows l m → length m ≤ length l + 1 → MadeOk m a F' (p .inset) Deep 1 r → MadeOk l a F (p .inset) Deep 2 r
-  widen m r F' f h n o = record {
+  -- from a list that grows from l
+  widen : (m : List Segment) (r : Made) (F' : ℕ) → F ≤ F' → Grows l m → MadeOk m a F' (p .inset) Deep r → MadeOk l a F (p .inset) Deep r
+  widen m r F' f h o = record {
     chain = o .chain;
     grows = grows-trans l m (r .bands) h (o .grows);
-    more = omega (arith, o .more);
     first = omega (arith, o .first);
     order = o .order;
     last = o .last;
@@ -312,16 +305,16 @@ module _ (l : List Segment) (a : Ask) (F : ℕ) (y0 : Float) (p : Spot) (c : Cha
 
   module _ (h : p .start < length l) (f : Fit l a F y0 H p) where
     unsplit : Done (startedAt a l (p .start) (p .end) (p .y))
-    unsplit = subst (λ (t : Float). (Val t × (k (p .y) ≤ k t)) × (T (inReach (add binary32 t (a .height))) → MadeOk l a F (p .inset) Deep 2 (startedAt a l (p .start) (p .end) (p .y)))) (sym (started-y a l (p .start) (p .end) (p .y))) (
+    unsplit = subst (λ (t : Float). (Val t × (k (p .y) ≤ k t)) × (T (inReach (add binary32 t (a .height))) → MadeOk l a F (p .inset) Deep (startedAt a l (p .start) (p .end) (p .y)))) (sym (started-y a l (p .start) (p .end) (p .y))) (
       (g .y, omega arith),
-      λ b. widen l (startedAt a l (p .start) (p .end) (p .y)) F (omega arith) (grows-refl l) (omega arith)
+      λ b. widen l (startedAt a l (p .start) (p .end) (p .y)) F (omega arith) (grows-refl l)
           (started-ok l a F (p .inset) Deep q (g .cb) c d (p .start) (p .end) (p .y) (g .first) h (g .order) (g .last) (g .y) (f .above) (λ x t. x t) (λ j u w t. omega (arith, f .leads j u w t, f .placed)) b),
     )
 
     split : Done (startedAt a (splitAt l (p .start) (p .y)) (suc (p .start)) (suc (p .end)) (p .y))
-    split = subst (λ (t : Float). (Val t × (k (p .y) ≤ k t)) × (T (inReach (add binary32 t (a .height))) → MadeOk l a F (p .inset) Deep 2 (startedAt a m (suc (p .start)) (suc (p .end)) (p .y)))) (sym (started-y a m (suc (p .start)) (suc (p .end)) (p .y))) (
+    split = subst (λ (t : Float). (Val t × (k (p .y) ≤ k t)) × (T (inReach (add binary32 t (a .height))) → MadeOk l a F (p .inset) Deep (startedAt a m (suc (p .start)) (suc (p .end)) (p .y)))) (sym (started-y a m (suc (p .start)) (suc (p .end)) (p .y))) (
       (g .y, omega arith),
-      λ b. widen m (startedAt a m (suc (p .start)) (suc (p .end)) (p .y)) F (omega arith) (grows-split (inf true) l (p .start) (p .y) c (g .y) (f .upTo)) (omega (arith, n))
+      λ b. widen m (startedAt a m (suc (p .start)) (suc (p .end)) (p .y)) F (omega arith) (grows-split (inf true) l (p .start) (p .y) c (g .y) (f .upTo))
           (started-ok m a F (p .inset) Deep q (g .cb) (chain-split (inf true) l (p .start) (p .y) c (g .y) (f .above) (f .upTo)) (either-split (a .side) F l (p .start) (p .y) (g .first) h d) (suc (p .start)) (suc (p .end)) (p .y) (omega (arith, g .first)) (omega (arith, n)) (omega (arith, g .order)) (omega (arith, n, g .last)) (g .y) (omega (arith, ap k (split-lower l (p .start) (p .y) h))) (λ x t. omega (arith, ap k (split-end l (p .start) (p .y) (p .end) (g .order)), x (omega (arith, n))))
           (λ j u w t. let o = old-gt (p .start) j (omega arith) in omega (arith, ap k (split-lead (a .side) l (p .start) (p .y) j), f .placed, f .leads (old (p .start) j) (omega arith) (omega arith) (omega (arith, n)))) b),
     )

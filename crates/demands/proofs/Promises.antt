@@ -4,8 +4,9 @@ use Prim.Native.Nat.{ℕ, _+_, _≤_, _<_}
 use mathlib.Core.Bool.{true, not}
 use mathlib.Core.List.{List, map}
 use lib.Dec.{T}
-use lib.Ieee.{Float, inf, binary32, add, sub, lt, le}
+use lib.Ieee.{Float, inf, binary32, add, sub, lt, le, eq}
 use lib.ListN.{length, getD}
+use Rattle.f32_laws.specs.Numbers.{zero+}
 use Rattle.float.specs.declared.ContentAnswer.{ContentAnswer}
 use Rattle.float.specs.declared.ContentSlot.{ContentSlot}
 use Rattle.float.specs.declared.Done.{Done}
@@ -16,7 +17,7 @@ use Rattle.float.specs.declared.Refusal.{Refusal}
 use Rattle.float.specs.declared.Segment.{Segment}
 use Rattle.float.specs.declared.fit.Ask.{Ask}
 use Rattle.float.specs.declared.refuse.Check.{Check}
-use Rattle.float.specs.Numbers.{plusZero}
+use Rattle.float.specs.Numbers.{plusZero, inReach}
 use Rattle.float.specs.Refuse.{sideOf}
 use Rattle.float.specs.Bands.{sameSide, other, lead, none}
 use Rattle.float.specs.Page.{Page, pageOf, stored}
@@ -27,6 +28,7 @@ use Rattle.demands.specs.Runs.{Each, Pairs, Act, box, boxIn, next, run, 
 use Rattle.demands.proofs.Splits.{start-split, end-split}
 use Rattle.demands.proofs.Input.{cleaned-fits}
 use Rattle.demands.proofs.Whole.{StepsTo, Lies, spot-in, place-ok}
+use Rattle.demands.proofs.Reach.{inset-in-reach, flat-not-6}
 use Rattle.demands.proofs.Structs.{page-placed}
 use Rattle.demands.proofs.Exact.{fits-idle}
 use Rattle.demands.proofs.Whole64.{known64, ask64}
@@ -103,6 +105,15 @@ pub y-low-enough : (os : List Act) (c : Call) → Handed F32 os → Each F32 (ha
 unfolding placeOf
 y-low-enough os c f g x y k e = subst (Lies (pageIn (after os)) (cleaned c)) e (place-ok (pageIn (after os)) (after os .accepted) c (reached os f) g .lies)
 
+-- refusal 6 comes of the bottom alone: placed inset plus width is in reach
+pub inset-never-far : (os : List Act) (c : Call) → Handed F32 os → Each F32 (handed (box c)) → inputCheck (cleaned c) ≡ Check.Passed → T (inReach (add binary32 (spotOf (pageIn (after os)) (cleaned c) .inset) (cleaned c .width)))
+inset-never-far os c f g e = let n = passed c g e in inset-in-reach (pageIn (after os)) (after os .accepted) (cleaned c) (reached os f) (n .0) (n .1)
+
+-- so a box of no height is never refused with 6
+pub flat-never-far : (os : List Act) (c : Call) → Handed F32 os → Each F32 (handed (box c)) → T (eq (cleaned c .height) zero+) → placeOf (after os .struct) c .answer ≡ PlaceAnswer.Refused Refusal.TooFar → ⊥
+unfolding placeOf
+flat-never-far os c f g = flat-not-6 (pageIn (after os)) (after os .accepted) c (reached os f) g
+
 -- a content question at a height, with insets 0, no clear and after none, answers that height and what stands there
 pub content-insets : (os : List Act) → Handed F32 os → (h : Float) → F32 h → (s : ContentSlot) → content (pageIn (after os)) (contentAt h) ≡ ContentAnswer.Slot s → Between (pageIn (after os)) (plusZero h) s
 content-insets os f h g s e = subst (Answers (pageIn (after os)) (plusZero h)) e (content-told (pageIn (after os)) h (reached os f .chain) g)
@@ -131,7 +142,7 @@ edges-exact os f s = each-boxed os f s exact-edges
 
 -- rule 7: beside an earlier box of its side, inset + width is at most page width - containing trail inset
 pub rule-7 : (os : List Act) → Handed F32 os → Handed Whole64 os
-    → Pairs (λ a b. T (sameSide (sideIn a) (sideIn b)) → T (sized a) → T (sized b) → T (shareHeight a b) → T (le (add binary32 (b .inset) (b .call .width)) (sub binary32 (pageIn (after os) .width) (containingTrail b)))) (after os .accepted)
+    → Pairs (λ a b. T (sameSide (sideIn a) (sideIn b)) → T (sized a) → T (sized b) → T (shareHeight a b) → T (le (farInset b) (sub binary32 (pageIn (after os) .width) (containingTrail b)))) (after os .accepted)
 rule-7 os f s = clear-pairs os f s seven
 
 -- no two accepted boxes of positive size overlap

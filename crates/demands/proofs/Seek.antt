@@ -20,7 +20,7 @@ use Rattle.float.specs.declared.search.Reach.{Reach}
 use Rattle.float.specs.declared.search.Spot.{Spot}
 use Rattle.float.specs.Bands.{other, lead, none, firstBelow}
 use Rattle.float.specs.Fit.{placedAt, fits}
-use Rattle.float.specs.Search.{State, atStart, atEnd, Turn, stop, again, spot, joined, opened, taller, giveUp, highTurn, joinTurn, endTurn, fitTurn, startTurn, turn, search, searchFrom}
+use Rattle.float.specs.Search.{State, atStart, atEnd, Turn, spot, joined, opened, taller, giveUp, highTurn, joinTurn, endTurn, fitTurn, startTurn, turn, search, searchFrom}
 use Rattle.demands.proofs.Laws.{k, Val, Ins, zero-k, ins-zero, larger-ins, larger-top, fits-down}
 use Rattle.demands.proofs.Chain.{Chain, chain-at, chain-next}
 use Rattle.demands.proofs.Turns.{Ordered, Keeps, search-has}

@@ -36,6 +36,7 @@ use Rattle.demands.proofs.Laws.{k, Val, Ins, on-either, ins-zero, ins-v
 use Rattle.demands.proofs.Chain.{Chain, chain-at, chain-mark, length-mark}
 use Rattle.demands.proofs.Heights.{Grows, grows-refl, grows-trans, grows-mark}
 use Rattle.demands.proofs.Turns.{search-steps}
+use Rattle.demands.proofs.More.{two-more}
 use Rattle.demands.proofs.Splits.{first-end, Taken, start-in}
 use Rattle.demands.proofs.Seek.{Falls, Asked, Count, no-count, Found, search-law, first-le, first-ge, first-far}
 use Rattle.demands.proofs.Make.{MadeOk, make-ok}
@@ -164,7 +165,7 @@ module _ (p : Page) (g : List Accepted) (c : Call) (a : Ask) (i x y : Float) (v 
   counted-ok o u r = subst (λ (t : Float). Inv (counted p a i y) (g ++ entry t ∷ [])) (sym (last-inset p a i y)) (counted-as (entry i) refl o u r)
 
 -- ---- a box is recorded
-module _ (p : Page) (g : List Accepted) (a : Ask) (i : Float) (m : Made) (v : Inv p g) (q : Asked a) (w : Ins i) (b : T (inReach (add binary32 i (a .width)))) (n : length (m .bands) ≤ maxBands) (D : Type 0) (o : MadeOk (p .bands) a (firstOf p) i D 2 m) where
+module _ (p : Page) (g : List Accepted) (a : Ask) (i : Float) (m : Made) (v : Inv p g) (q : Asked a) (w : Ins i) (b : T (inReach (add binary32 i (a .width)))) (n : length (m .bands) ≤ maxBands) (D : Type 0) (o : MadeOk (p .bands) a (firstOf p) i D m) where
   edge : Ins (add binary32 i (a .width))
   edge = sum-ins w (q .width) b
 
@@ -176,9 +177,6 @@ module _ (p : Page) (g : List Accepted) (a : Ask) (i : Float) (m : Made) (v : In
 
   recorded-grows : Grows (p .bands) (recorded p a i m .bands)
   recorded-grows = grows-trans (p .bands) (m .bands) _ (o .grows) (grows-mark _ _ (m .bands) _ _ (λ j u x y. omega (arith, wider, o .covers j u (omega (arith, o .order)) y)))
-
-  recorded-more : length (recorded p a i m .bands) ≤ length (p .bands) + 2
-  recorded-more = omega (arith, same-length, o .more)
 
   kept-ok : (x : Kept) → x .first ≤ x .past → keep x (m .start) (m .end) .first ≤ keep x (m .start) (m .end) .past
   kept-ok x h = omega (arith, o .order)
@@ -230,7 +228,7 @@ module _ (p : Page) (g : List Accepted) (c : Call) (s : Spot) (v : Inv p g) (q :
       (λ w. let l = leb→le (length (m .bands)) maxBands w in record {
         inv = counted-ok (recorded p a (s .inset) m) g c a (s .inset) (xOf a (s .inset)) (m .y) (recorded-ok p g a (s .inset) m v q (f .inset) z l D o) q (d .0 .0) x n (λ z o. omega (arith, f .low, d .0 .1, h z o)) refl lead refl;
         grows = recorded-grows p g a (s .inset) m v q (f .inset) z l D o;
-        more = recorded-more p g a (s .inset) m v q (f .inset) z l D o;
+        more = omega (arith, same-length p g a (s .inset) m v q (f .inset) z l D o, two-more a (p .bands) s);
         steps = few;
         lies = e (m .y) (d .0 .0) (omega (arith, f .low, d .0 .1));
       })
@@ -249,7 +247,7 @@ module _ (p : Page) (g : List Accepted) (c : Call) (s : Spot) (v : Inv p g) (q :
       D : Type 0
       D = s .end < length (p .bands) → k (add binary32 (s .y) (a .height)) ≤ k (getD (p .bands) (s .end) none .end)
 
-      d : (Val (m .y) × (k (s .y) ≤ k (m .y))) × (T (inReach (add binary32 (m .y) (a .height))) → MadeOk (p .bands) a (firstOf p) (s .inset) D 2 m)
+      d : (Val (m .y) × (k (s .y) ≤ k (m .y))) × (T (inReach (add binary32 (m .y) (a .height))) → MadeOk (p .bands) a (firstOf p) (s .inset) D m)
       d = make-ok (p .bands) a (firstOf p) (lowest p c) s (v .chain) q (v .falls (a .side)) (v .first) H f
 
 -- ---- what the search finds on such a page
