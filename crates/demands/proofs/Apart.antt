@@ -7,13 +7,13 @@ use native.Mathlib.Omega.{arith}
 use mathlib.Core.Bool.{Bool, true, false}
 use mathlib.Core.List.{List, [], _∷_, _++_}
 use lib.Dec.{T, leb}
-use lib.Ieee.{Float, inf, binary32, add, eq}
+use lib.Ieee.{Float, inf, binary32, add, le, eq}
 use lib.Ieee.Fits.{and-l, and-r}
 use lib.ListN.{length, getD}
 use Rattle.f32_laws.specs.Numbers.{larger, zero+}
 use Rattle.f32_laws.specs.Key.{Num}
 use Rattle.f32_laws.proofs.Tests.{both}
-use Rattle.f32_laws.proofs.Keys.{eq→key}
+use Rattle.f32_laws.proofs.Keys.{le→key, eq→key}
 use Rattle.f32_laws.proofs.Larger.{larger-key}
 use Rattle.float.specs.declared.Bottom.{Bottom}
 use Rattle.float.specs.declared.FloatDirection.{FloatDirection}
@@ -96,7 +96,7 @@ counted64 n g a i y e iv w d bt cl qy qb bs b ss s os o = record {
 }
 
 -- ---- a placement
-module _ (p : Page) (g : List Accepted) (c : Call) (v : Inv64 p g) (q : Ask64 (askOf p c)) (y0 : Float) (s : Spot) (f : Found (p .bands) (askOf p c) (firstOf p) y0 (count64 (p .bands) (v .inv .chain) (v .bands)) s) where
+module _ (p : Page) (g : List Accepted) (c : Call) (v : Inv64 p g) (q : Ask64 (askOf p c)) (y0 : Float) (s : Spot) (f : Found (p .bands) (askOf p c) (firstOf p) y0 (count64 (p .bands) (v .inv .chain) (v .bands)) s) (r : T (le (askOf p c .«cb_lead») (s .inset))) where
   abbrev ask : Ask
   ask = askOf p c
 
@@ -221,7 +221,7 @@ module _ (p : Page) (g : List Accepted) (c : Call) (v : Inv64 p g) (q : Ask64 (a
       edge y u = q-sum (f .inset-ok) (q .width) (ins-val (f .inset)) (q .asked .width) (and-r (inReach (add binary32 y (c .height))) (inReach (add binary32 (s .inset) (c .width))) u)
 
       made : (Val (M .y) × (k (s .y) ≤ k (M .y))) × (T (inReach (add binary32 (M .y) (c .height))) → MadeOk (p .bands) ask (firstOf p) (s .inset) Deep M)
-      made = make-ok (p .bands) ask (firstOf p) y0 s (v .inv .chain) (q .asked) (v .inv .falls (ask .side)) (v .inv .first) (count64 (p .bands) (v .inv .chain) (v .bands)) f
+      made = make-ok (p .bands) ask (firstOf p) y0 s (v .inv .chain) (q .asked) (v .inv .falls (ask .side)) (v .inv .first) (count64 (p .bands) (v .inv .chain) (v .bands)) f (le→key (q .asked .cbLead .num) (f .inset .num) r)
 
       empty : (t' : Float) → T (eq (c .height) zero+) → Inside (entry (s .y)) t' → ⊥
       empty t' t i = omega (arith, i .0, i .1, sum-exact (f .y-ok) (q .height), eq→key (q .asked .height .num) (ins-zero .num) t, zero-k)

@@ -6,7 +6,6 @@ use mathlib.Core.Bool.{Bool, true, false, _||_}
 use lib.IntN.{pos}
 use lib.Dec.{T, lit≤}
 use lib.Ieee.{Float, inf, binary32, fits as fits-in, add, sub, le, eq}
-use lib.Ieee.Fits.{and-l, and-r, and-i}
 use Rattle.f32_laws.specs.Numbers.{larger, zero+, tol}
 use Rattle.f32_laws.specs.Key.{Num, Fin, key, bias, mag}
 use Rattle.f32_laws.specs.Within.{u20}
@@ -21,6 +20,7 @@ use Rattle.float.specs.declared.fit.Ask.{Ask}
 use Rattle.float.specs.Numbers.{farthest, inReach}
 use Rattle.float.specs.Bands.{onSide}
 use Rattle.float.specs.Fit.{passes, placedAt, fits}
+use Rattle.demands.proofs.Halves.{trail-half, lead-half, both-halves}
 
 abbrev pub k : Float → ℕ
 k x = key binary32 x
@@ -135,15 +135,11 @@ passes-down {i} {i'} {x} {x'} {g} {t} {t'} p p' n n' w q q' h o m =
 
 module _ (a : Ask) (w : Ins (a .width)) (g : Ins (a .page)) (c : Ins (a .«cb_lead»)) (d : Ins (a .«cb_trail»)) {l t l' t' : Float} (p : Ins l) (q : Ins t) (p' : Ins l') (q' : Ins t') (h : k l ≤ k l') (i : k t ≤ k t') where
   pub fits-down : T (fits a l' t') → T (fits a l t)
-  unfolding fits placedAt
+  unfolding placedAt
   fits-down f =
       let v = larger-ins p c in
       let v' = larger-ins p' c in
-      let x = add binary32 (larger l (a .«cb_lead»)) (a .width) in
-      let x' = add binary32 (larger l' (a .«cb_lead»)) (a .width) in
       let n = sum-num (ins-val v) w in
       let n' = sum-num (ins-val v') w in
       let o = add-mono-l (ins-fin v) (ins-fin v') (ins-fin w) (key→le (v .num) (v' .num) (omega (arith, larger-key (p .num) (c .num), larger-key (p' .num) (c .num)))) in
-      let A = passes t' x' (a .page) t' in
-      let D = passes l' x' (a .page) (a .«cb_trail») in
-      and-i (passes t x (a .page) t) (passes l x (a .page) (a .«cb_trail»)) (passes-down q q' n n' g q q' i o i (and-l A D f)) (passes-down p p' n n' g d d h o (omega arith) (and-r A D f))
+      both-halves a l t (passes-down q q' n n' g q q' i o i (trail-half a l' t' f)) (passes-down p p' n n' g d d h o (omega arith) (lead-half a l' t' f))

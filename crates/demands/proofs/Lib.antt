@@ -1,10 +1,12 @@
 -- The argument in the order in which it is told; Promises says what comes of it.
+pub mod Halves
 pub mod Laws
 pub mod Chain
 pub mod Heights
 pub mod Turns
 pub mod Splits
 pub mod More
+pub mod Leads
 pub mod Seek
 pub mod Make
 pub mod Input

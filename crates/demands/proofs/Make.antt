@@ -281,7 +281,7 @@ started-y a m s e y =
     (λ t. both (λ (r : Made). r .y ≡ y) (lt (endOf m) b) (λ u. refl) (λ u. refl))
 
 -- ---- rules 6 and 7 together: from what the search found to the made place
-module _ (l : List Segment) (a : Ask) (F : ℕ) (y0 : Float) (p : Spot) (c : Chain (inf true) l) (q : Asked a) (d : Falls (a .side) F l ⊎ Falls (other (a .side)) F l) (z : F ≤ length l) (H : Count l) (g : Found l a F y0 H p) where
+module _ (l : List Segment) (a : Ask) (F : ℕ) (y0 : Float) (p : Spot) (c : Chain (inf true) l) (q : Asked a) (d : Falls (a .side) F l ⊎ Falls (other (a .side)) F l) (z : F ≤ length l) (H : Count l) (g : Found l a F y0 H p) (r : k (a .«cb_lead») ≤ k (p .inset)) where
   -- on 64ths the counted height is enough: the box's bottom is above the end band's end
   abbrev Deep : Type 0
   Deep = p .end < length l → k (add binary32 (p .y) (a .height)) ≤ k (getD l (p .end) none .end)
@@ -308,14 +308,14 @@ module _ (l : List Segment) (a : Ask) (F : ℕ) (y0 : Float) (p : Spot) (c : Cha
     unsplit = subst (λ (t : Float). (Val t × (k (p .y) ≤ k t)) × (T (inReach (add binary32 t (a .height))) → MadeOk l a F (p .inset) Deep (startedAt a l (p .start) (p .end) (p .y)))) (sym (started-y a l (p .start) (p .end) (p .y))) (
       (g .y, omega arith),
       λ b. widen l (startedAt a l (p .start) (p .end) (p .y)) F (omega arith) (grows-refl l)
-          (started-ok l a F (p .inset) Deep q (g .cb) c d (p .start) (p .end) (p .y) (g .first) h (g .order) (g .last) (g .y) (f .above) (λ x t. x t) (λ j u w t. omega (arith, f .leads j u w t, f .placed)) b),
+          (started-ok l a F (p .inset) Deep q r c d (p .start) (p .end) (p .y) (g .first) h (g .order) (g .last) (g .y) (f .above) (λ x t. x t) (λ j u w t. omega (arith, f .leads j u w t, f .placed)) b),
     )
 
     split : Done (startedAt a (splitAt l (p .start) (p .y)) (suc (p .start)) (suc (p .end)) (p .y))
     split = subst (λ (t : Float). (Val t × (k (p .y) ≤ k t)) × (T (inReach (add binary32 t (a .height))) → MadeOk l a F (p .inset) Deep (startedAt a m (suc (p .start)) (suc (p .end)) (p .y)))) (sym (started-y a m (suc (p .start)) (suc (p .end)) (p .y))) (
       (g .y, omega arith),
       λ b. widen m (startedAt a m (suc (p .start)) (suc (p .end)) (p .y)) F (omega arith) (grows-split (inf true) l (p .start) (p .y) c (g .y) (f .upTo))
-          (started-ok m a F (p .inset) Deep q (g .cb) (chain-split (inf true) l (p .start) (p .y) c (g .y) (f .above) (f .upTo)) (either-split (a .side) F l (p .start) (p .y) (g .first) h d) (suc (p .start)) (suc (p .end)) (p .y) (omega (arith, g .first)) (omega (arith, n)) (omega (arith, g .order)) (omega (arith, n, g .last)) (g .y) (omega (arith, ap k (split-lower l (p .start) (p .y) h))) (λ x t. omega (arith, ap k (split-end l (p .start) (p .y) (p .end) (g .order)), x (omega (arith, n))))
+          (started-ok m a F (p .inset) Deep q r (chain-split (inf true) l (p .start) (p .y) c (g .y) (f .above) (f .upTo)) (either-split (a .side) F l (p .start) (p .y) (g .first) h d) (suc (p .start)) (suc (p .end)) (p .y) (omega (arith, g .first)) (omega (arith, n)) (omega (arith, g .order)) (omega (arith, n, g .last)) (g .y) (omega (arith, ap k (split-lower l (p .start) (p .y) h))) (λ x t. omega (arith, ap k (split-end l (p .start) (p .y) (p .end) (g .order)), x (omega (arith, n))))
           (λ j u w t. let o = old-gt (p .start) j (omega arith) in omega (arith, ap k (split-lead (a .side) l (p .start) (p .y) j), f .placed, f .leads (old (p .start) j) (omega arith) (omega arith) (omega (arith, n)))) b),
     )
       where
@@ -335,4 +335,4 @@ module _ (l : List Segment) (a : Ask) (F : ℕ) (y0 : Float) (p : Spot) (c : Cha
       (λ u. unsplit h f)
       (λ u. split h f))
       (λ t. let v = top-larger (chain-last (inf true) l top-low c) (g .y) in
-      ((v, omega (arith, larger-key (chain-last (inf true) l top-low c .num) (g .y .num))), λ b. below-ok l a F (p .inset) Deep q (g .cb) c (p .y) z (g .y) b))
+      ((v, omega (arith, larger-key (chain-last (inf true) l top-low c .num) (g .y .num))), λ b. below-ok l a F (p .inset) Deep q r c (p .y) z (g .y) b))

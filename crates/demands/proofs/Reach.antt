@@ -8,7 +8,7 @@ use mathlib.Core.List.{List}
 use lib.Count.{trailingZeros}
 use lib.Dec.{T, ltb, T-not}
 use lib.Ieee.{Float, binary32, add, sub, neg, sum, round, units, odd, size, span, climb, le, eq}
-use lib.Ieee.Fits.{and-i, and-r}
+use lib.Ieee.Fits.{and-i}
 use lib.ListN.{length}
 use Rattle.f32_laws.specs.Numbers.{zero+, tol}
 use Rattle.f32_laws.specs.Key.{Fin}
@@ -28,9 +28,10 @@ use Rattle.float.specs.declared.search.Spot.{Spot}
 use Rattle.float.specs.Numbers.{most, farthest, inReach, allAllowed}
 use Rattle.float.specs.Refuse.{numberOf, sideOf}
 use Rattle.float.specs.Page.{Page, maxBoxes}
-use Rattle.float.specs.Fit.{passes, placedAt, fits}
+use Rattle.float.specs.Fit.{passes, placedAt}
 use Rattle.float.specs.Place.{Call, cleaned, numbers, Result, lowest, firstOf, askOf, spotOf, near, flat, put, admitted, checked, place}
 use Rattle.demands.specs.Runs.{Each, Accepted, box, handed, F32}
+use Rattle.demands.proofs.Halves.{lead-half}
 use Rattle.demands.proofs.Laws.{k, B, Ins, far-twice, zero-k, ins-zero, ins-val, ins-fin, val-fin, larger-ins, sum-num, farthest-num, or-right}
 use Rattle.demands.proofs.Seek.{Asked, Count, no-count, Fit, Found}
 use Rattle.demands.proofs.Input.{most-mag, most-num, Known, known, check-both, cleaned-fits, asked, sizes}
@@ -65,7 +66,7 @@ module _ (l : List Segment) (a : Ask) (F : ℕ) (y0 : Float) (H : Count l) (p : 
 
   -- past a float the fit test's second half bounds the sum by the page
   past : (f : Fit l a F y0 H p) → B < k (f .jl) → T (inReach (add binary32 (p .inset) (a .width)))
-  unfolding inReach fits placedAt passes
+  unfolding inReach placedAt passes
   past f h =
       let x = larger-ins (f .lead-ins) (q .cbLead) in
       let m = larger-key (f .lead-ins .num) (q .cbLead .num) in
@@ -74,7 +75,7 @@ module _ (l : List Segment) (a : Ask) (F : ℕ) (y0 : Float) (H : Count l) (p : 
       let d = sub-num (ins-fin (q .page)) (ins-fin (q .cbTrail)) in
       let e = sub-num farthest-fin (ins-fin ins-zero) in
       let s = add-mono-l (ins-fin (g .inset)) (ins-fin x) (ins-fin (q .width)) (key→le (g .inset .num) (x .num) (omega (arith, f .placed))) in
-      let t = or-right (eq (f .jl) zero+) _ (λ z. omega (arith, eq→key (f .lead-ins .num) (ins-zero .num) z, zero-k)) (and-r (passes (f .jt) _ (a .page) (f .jt)) (passes (f .jl) _ (a .page) (a .«cb_trail»)) (f .room)) in
+      let t = or-right (eq (f .jl) zero+) _ (λ z. omega (arith, eq→key (f .lead-ins .num) (ins-zero .num) z, zero-k)) (lead-half a (f .jl) (f .jt) (f .room)) in
       let u = add-mono-num d e tol-fin (sub-mono (ins-fin (q .page)) farthest-fin (ins-fin (q .cbTrail)) (ins-fin ins-zero) (key→le (q .page .num) farthest-num (q .page .high)) (key→le (ins-zero .num) (q .cbTrail .num) (omega (arith, zero-k, q .cbTrail .low)))) in
       subst (λ (z : Float). T (le (add binary32 (p .inset) (a .width)) z)) brim (trans-le n n' (add-num' e tol-fin) s (trans-le n' (add-num' d tol-fin) (add-num' e tol-fin) t u))
 

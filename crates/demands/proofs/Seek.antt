@@ -77,7 +77,6 @@ module _ (l : List Segment) (a : Ask) (F : ℕ) (y0 : Float) (H : Count l) where
     pub inset : Ins (p .inset)
     pub y-ok : H .Ok (p .y)
     pub inset-ok : H .Ok (p .inset)
-    pub cb : k (a .«cb_lead») ≤ k (p .inset)
     pub alone : length l ≤ p .start → p .inset ≡ a .«cb_lead»
     pub fit : p .start < length l → Fit p
 
@@ -206,7 +205,6 @@ module _ (l : List Segment) (a : Ask) (F : ℕ) (y0 : Float) (H : Count l) where
         inset = larger-ins v (q .cbLead);
         y-ok = g .ok;
         inset-ok = larger-ok w cb-ok;
-        cb = omega arith;
         alone = λ o. absurd (not-suc-le-zero {n = 0} (omega (arith, g .real)));
         fit = λ u. record {
           above = g .above;
@@ -395,7 +393,6 @@ module _ (l : List Segment) (a : Ask) (F : ℕ) (y0 : Float) (H : Count l) where
           inset = q .cbLead;
           y-ok = g .ok;
           inset-ok = cb-ok;
-          cb = omega arith;
           alone = λ o. refl;
           fit = λ o. absurd (not-suc-le-zero {n = 0} (omega arith));
         })

@@ -14,7 +14,7 @@ use lib.ListN.{length, getD, length-append}
 use lib.Seq.{getD-append-seam}
 use Rattle.f32_laws.specs.Numbers.{zero+}
 use Rattle.f32_laws.proofs.Tests.{both}
-use Rattle.f32_laws.proofs.Keys.{lt→key, key→le}
+use Rattle.f32_laws.proofs.Keys.{le→key, lt→key, key→le}
 use Rattle.float.specs.declared.Bottom.{Bottom}
 use Rattle.float.specs.declared.Clear.{Clear}
 use Rattle.float.specs.declared.Done.{Done}
@@ -37,6 +37,7 @@ use Rattle.demands.proofs.Chain.{Chain, chain-at, chain-mark, length-ma
 use Rattle.demands.proofs.Heights.{Grows, grows-refl, grows-trans, grows-mark}
 use Rattle.demands.proofs.Turns.{search-steps}
 use Rattle.demands.proofs.More.{two-more}
+use Rattle.demands.proofs.Leads.{search-leads}
 use Rattle.demands.proofs.Splits.{first-end, Taken, start-in}
 use Rattle.demands.proofs.Seek.{Falls, Asked, Count, no-count, Found, search-law, first-le, first-ge, first-far}
 use Rattle.demands.proofs.Make.{MadeOk, make-ok}
@@ -131,6 +132,10 @@ last-inset p a i y =
     let n : length (p .boxes ++ boxOf a i y ∷ []) - 1 ≡ length (p .boxes) = omega (arith, length-append (p .boxes) (boxOf a i y ∷ [])) in
     ap (λ (j : ℕ). getD (p .boxes ++ boxOf a i y ∷ []) j noBox .«x_inset») n ∙ ap (λ (b : PlacedFloatedBox). b .«x_inset») (getD-append-seam (p .boxes) (boxOf a i y) [] noBox)
 
+-- the page keeps the box that is noted
+box-noted : (p : Page) (c : Call) (i x y : Float) → boxOf (askOf p c) i y ≡ boxIn (record { call = c; x = x; y = y; inset = i })
+box-noted p c i x y = refl
+
 module _ (p : Page) (g : List Accepted) (c : Call) (a : Ask) (i x y : Float) (v : Inv p g) (q : Asked a) (w : Val y) (b : T (inReach (add binary32 y (a .height)))) (n : length (p .boxes) < maxBoxes) (h : (z : Float) → AtMost z (p .ceiling) → k z ≤ k y) where
   bot : Val (add binary32 y (a .height))
   bot = sum-val w (q .height) b
@@ -206,14 +211,14 @@ module _ (p : Page) (g : List Accepted) (a : Ask) (i : Float) (m : Made) (v : In
       K x = x .first ≤ x .past
 
 -- ---- a placement whose input is in order
-module _ (p : Page) (g : List Accepted) (c : Call) (s : Spot) (v : Inv p g) (q : Asked (askOf p c)) (h : (z : Float) → AtMost z (p .ceiling) → k z ≤ k (lowest p c)) (e : (y : Float) → Val y → k (lowest p c) ≤ k y → LowEnough p c y) (n : length (p .boxes) < maxBoxes) (few : s .steps ≤ length (p .bands) + length (p .bands)) (H : Count (p .bands)) (f : Found (p .bands) (askOf p c) (firstOf p) (lowest p c) H s) where
+module _ (p : Page) (g : List Accepted) (c : Call) (s : Spot) (v : Inv p g) (q : Asked (askOf p c)) (h : (z : Float) → AtMost z (p .ceiling) → k z ≤ k (lowest p c)) (e : (y : Float) → Val y → k (lowest p c) ≤ k y → LowEnough p c y) (n : length (p .boxes) < maxBoxes) (few : s .steps ≤ length (p .bands) + length (p .bands)) (H : Count (p .bands)) (f : Found (p .bands) (askOf p c) (firstOf p) (lowest p c) H s) (r : T (le (askOf p c .«cb_lead») (s .inset))) where
   put-ok : Step p g c (put p (askOf p c) s)
   unfolding put flat high
   put-ok =
       both (Step p g c) (eq (c .height) zero+)
       (λ t. both (Step p g c) (near a (s .inset) (s .y))
       (λ u. record {
-        inv = counted-ok p g c a (s .inset) (xOf a (s .inset)) (s .y) v q (f .y) (and-l (inReach (add binary32 (s .y) (a .height))) (inReach (add binary32 (s .inset) (a .width))) u) n (λ z o. omega (arith, f .low, h z o)) refl lead refl;
+        inv = counted-ok p g c a (s .inset) (xOf a (s .inset)) (s .y) v q (f .y) (and-l (inReach (add binary32 (s .y) (a .height))) (inReach (add binary32 (s .inset) (a .width))) u) n (λ z o. omega (arith, f .low, h z o)) (box-noted p c (s .inset) (xOf a (s .inset)) (s .y)) r refl;
         grows = grows-refl (p .bands);
         more = omega arith;
         steps = few;
@@ -226,7 +231,7 @@ module _ (p : Page) (g : List Accepted) (c : Call) (s : Spot) (v : Inv p g) (q :
       let o = d .1 x in
       both (Step p g c) (leb (length (m .bands)) maxBands)
       (λ w. let l = leb→le (length (m .bands)) maxBands w in record {
-        inv = counted-ok (recorded p a (s .inset) m) g c a (s .inset) (xOf a (s .inset)) (m .y) (recorded-ok p g a (s .inset) m v q (f .inset) z l D o) q (d .0 .0) x n (λ z o. omega (arith, f .low, d .0 .1, h z o)) refl lead refl;
+        inv = counted-ok (recorded p a (s .inset) m) g c a (s .inset) (xOf a (s .inset)) (m .y) (recorded-ok p g a (s .inset) m v q (f .inset) z l D o) q (d .0 .0) x n (λ z o. omega (arith, f .low, d .0 .1, h z o)) (box-noted p c (s .inset) (xOf a (s .inset)) (m .y)) r refl;
         grows = recorded-grows p g a (s .inset) m v q (f .inset) z l D o;
         more = omega (arith, same-length p g a (s .inset) m v q (f .inset) z l D o, two-more a (p .bands) s);
         steps = few;
@@ -238,9 +243,6 @@ module _ (p : Page) (g : List Accepted) (c : Call) (s : Spot) (v : Inv p g) (q :
       a : Ask
       a = askOf p c
 
-      lead : T (le (a .«cb_lead») (s .inset))
-      lead = key→le (q .cbLead .num) (f .inset .num) (f .cb)
-
       m : Made
       m = make a (p .bands) s
 
@@ -248,7 +250,7 @@ module _ (p : Page) (g : List Accepted) (c : Call) (s : Spot) (v : Inv p g) (q :
       D = s .end < length (p .bands) → k (add binary32 (s .y) (a .height)) ≤ k (getD (p .bands) (s .end) none .end)
 
       d : (Val (m .y) × (k (s .y) ≤ k (m .y))) × (T (inReach (add binary32 (m .y) (a .height))) → MadeOk (p .bands) a (firstOf p) (s .inset) D m)
-      d = make-ok (p .bands) a (firstOf p) (lowest p c) s (v .chain) q (v .falls (a .side)) (v .first) H f
+      d = make-ok (p .bands) a (firstOf p) (lowest p c) s (v .chain) q (v .falls (a .side)) (v .first) H f (le→key (q .cbLead .num) (f .inset .num) r)
 
 -- ---- what the search finds on such a page
 module _ (p : Page) (g : List Accepted) (c : Call) (v : Inv p g) (n : Each Known (numbers c)) where
@@ -282,6 +284,10 @@ module _ (p : Page) (g : List Accepted) (c : Call) (v : Inv p g) (n : Each Known
       go (yes d) = omega (arith, first-ge l m y d, allowed-ok (clearOf (c .clear)))
       go (no d) = omega (arith, first-far l m y (omega arith), v .first)
 
+  pub spot-leads : T (le (askOf p c .«cb_lead») (spotOf p c .inset))
+  unfolding spotOf
+  spot-leads = search-leads (p .bands) (askOf p c) (v .chain) (asked p c (v .width) n .cbLead .num) _ _ (first-le (p .bands) _ _)
+
   pub spot-in : Taken (p .bands) (askOf p c) (v .chain) (spotOf p c)
   unfolding spotOf
   spot-in = start-in (p .bands) (askOf p c) (v .chain) _ _ (first-le (p .bands) _ _) (lowest-val .num) (first-end (p .bands) _ _)
@@ -294,7 +300,7 @@ admitted-ok : (p : Page) (g : List Accepted) (c : Call) → Inv p g → Each Kno
 unfolding admitted
 admitted-ok p g c v n =
     both (Step p g c) (ltb (length (p .boxes)) maxBoxes)
-    (λ w. put-ok p g c (spotOf p c) v (asked p c (v .width) n) (lowest-over p c (n .1 .1 .0) (v .ceiling) (v .bottom)) (low-enough p c (n .1 .1 .0) (v .ceiling) (v .bottom)) (ltb→lt (length (p .boxes)) maxBoxes w) (spot-steps p c) (no-count (p .bands)) (spot-ok p g c v n (no-count (p .bands)) tt tt))
+    (λ w. put-ok p g c (spotOf p c) v (asked p c (v .width) n) (lowest-over p c (n .1 .1 .0) (v .ceiling) (v .bottom)) (low-enough p c (n .1 .1 .0) (v .ceiling) (v .bottom)) (ltb→lt (length (p .boxes)) maxBoxes w) (spot-steps p c) (no-count (p .bands)) (spot-ok p g c v n (no-count (p .bands)) tt tt) (spot-leads p g c v n))
     (λ w. refuse-ok p g c Refusal.BoxesFull v)
 
 -- one placement
