@@ -1,17 +1,17 @@
 -- A content question with no containing inset answers the insets of its own height: its search finds the band that `insetAt` reads, and no start is below the height.
-use mathlib.Core.Path.{_≡_, refl, sym, ap, ap₂, _∙_, subst}
-use Prim.Native.Nat.{ℕ, zero, suc, _≤_, _<_}
-use native.Mathlib.Nat.{le-of-suc-le-suc, not-suc-le-zero}
+use mathlib.Core.Path.{_≡_, refl, sym, ap₂, _∙_, subst}
+use Prim.Native.Nat.{ℕ, zero, _≤_, _<_}
+use native.Mathlib.Nat.{not-suc-le-zero}
 use native.Mathlib.Omega.{arith}
-use mathlib.Core.Bool.{Bool, true, false, not}
+use mathlib.Core.Bool.{true}
 use mathlib.Core.List.{List, [], _∷_}
-use lib.Dec.{T, ltb, ltb→lt, nltb→le, T-not}
+use lib.Dec.{ltb, ltb→lt, nltb→le, T-not}
 use lib.Ieee.{Float, inf, binary32, sub, lt, eq}
 use lib.ListN.{length, getD}
 use Rattle.f32_laws.specs.Numbers.{larger, zero+}
 use Rattle.f32_laws.specs.Key.{Num}
 use Rattle.f32_laws.proofs.Tests.{both}
-use Rattle.f32_laws.proofs.Keys.{lt→key, nlt→key, zero-fin}
+use Rattle.f32_laws.proofs.Keys.{lt→key, zero-fin}
 use Rattle.float.specs.declared.BandNumber.{BandNumber}
 use Rattle.float.specs.declared.Clear.{Clear}
 use Rattle.float.specs.declared.ContentAnswer.{ContentAnswer}
@@ -27,28 +27,8 @@ use Rattle.demands.specs.Runs.{F32, insetAt, contentAt, Between}
 use Rattle.demands.proofs.Laws.{k, Val, ins-zero, zero-k}
 use Rattle.demands.proofs.Chain.{Chain, chain-at}
 use Rattle.demands.proofs.Heights.{at-is}
-use Rattle.demands.proofs.Splits.{first-end}
+use Rattle.demands.proofs.First.{first-end, first-start, first-none}
 use Rattle.demands.proofs.Input.{known, check-both, plus-fits}
-
--- ---- the first band below a height, from the top
-first-start : (x : Float) (l : List Segment) (y : Float) → Chain x l → Num binary32 y → k x ≤ k y → firstBelow l 0 y < length l → k (getD l (firstBelow l 0 y) none .start) ≤ k y
-unfolding firstBelow
-first-start x [] y c n o h = absurd (not-suc-le-zero h)
-first-start x (b ∷ bs) y c n o h = go (lt y (b .end)) (λ t. first-start (b .end) bs y (c .2) n (nlt→key n (c .1 .end .num) t)) h
-  where
-    go : (t : Bool) → (T (not t) → firstBelow bs 0 y < length bs → k (getD bs (firstBelow bs 0 y) none .start) ≤ k y) → (elim t [ true ↦ 0 | false ↦ suc (firstBelow bs zero y) ]) < suc (length bs) → k (getD (b ∷ bs) (elim t [ true ↦ 0 | false ↦ suc (firstBelow bs zero y) ]) none .start) ≤ k y
-    go true r h = omega (arith, ap k (c .0))
-    go false r h = r tt (le-of-suc-le-suc h)
-
--- with none below it, there is no inset
-first-none : (s : FloatDirection) (l : List Segment) (y : Float) → length l ≤ firstBelow l 0 y → insetAt s y l ≡ zero+
-unfolding firstBelow insetAt
-first-none s [] y h = refl
-first-none s (b ∷ bs) y h = go (lt y (b .end)) (first-none s bs y) h
-  where
-    go : (t : Bool) → (length bs ≤ firstBelow bs 0 y → insetAt s y bs ≡ zero+) → suc (length bs) ≤ (elim t [ true ↦ 0 | false ↦ suc (firstBelow bs zero y) ]) → (elim t [ true ↦ lead s b | false ↦ insetAt s y bs ]) ≡ zero+
-    go true r h = absurd (not-suc-le-zero h)
-    go false r h = r (le-of-suc-le-suc h)
 
 -- the larger of a number and one that is no larger
 larger-first : {x y : Float} → Num binary32 x → Num binary32 y → k y ≤ k x → larger x y ≡ x

@@ -4,12 +4,15 @@ pub mod Laws
 pub mod Chain
 pub mod Heights
 pub mod Turns
+pub mod First
 pub mod Splits
-pub mod More
 pub mod Leads
 pub mod Seek
 pub mod Make
 pub mod Input
+pub mod Ways
+pub mod Steps
+pub mod More
 pub mod Lists
 pub mod Whole
 pub mod Reach

@@ -10,8 +10,12 @@ use Rattle.f32_laws.proofs.Tests.{both}
 use Rattle.float.specs.declared.Segment.{Segment}
 use Rattle.float.specs.declared.fit.Ask.{Ask}
 use Rattle.float.specs.declared.search.Spot.{Spot}
+use Rattle.float.specs.Refuse.{sideOf}
 use Rattle.float.specs.Bands.{none, bare, splitAt}
-use Rattle.float.specs.Place.{Made, seed, endOf, gapped, walked, inside, startedAt, make}
+use Rattle.float.specs.Page.{Page}
+use Rattle.float.specs.Place.{Made, seed, endOf, gapped, walked, inside, startedAt, make, askOf, spotOf, Call, cleaned, place}
+use Rattle.demands.proofs.Chain.{length-mark}
+use Rattle.demands.proofs.Ways.{place-ways}
 
 -- at most n more than l
 abbrev More : List Segment → ℕ → List Segment → Type 0
@@ -44,7 +48,7 @@ module _ (a : Ask) (l : List Segment) where
   one-gap : (z y : Float) → More l 1 (gapped l z y)
   one-gap z y = both (More l 1) (lt z y) (λ u. one-added l (bare z y zero+ zero+)) (λ u. omega arith)
 
-pub two-more : (a : Ask) (l : List Segment) (p : Spot) → length (make a l p .bands) ≤ length l + 2
+two-more : (a : Ask) (l : List Segment) (p : Spot) → length (make a l p .bands) ≤ length l + 2
 unfolding make
 two-more a l p =
     both P (ltb (p .start) (length l))
@@ -55,3 +59,9 @@ two-more a l p =
   where
     P : Made → Type 0
     P m = More l 2 (m .bands)
+
+pub place-more : (p : Page) (c : Call) → length (place p c .page .bands) ≤ length (p .bands) + 2
+place-more p c =
+    let d = cleaned c in
+    let m = make (askOf p d) (p .bands) (spotOf p d) in
+    place-ways (λ r. More (p .bands) 2 (r .page .bands)) p c (λ n. omega arith) (omega arith) (omega (arith, length-mark (sideOf (c .side)) (add binary32 (spotOf p d .inset) (d .width)) (m .bands) (m .start) (m .end), two-more (askOf p d) (p .bands) (spotOf p d)))

@@ -25,9 +25,11 @@ use Rattle.float.specs.Fit.{fits}
 use Rattle.float.specs.Place.{Call, cleaned, numbers, inputCheck, askOf, spotOf, place, placedPage, placeOf, setWidth, widthOf, ifDone}
 use Rattle.float.specs.Slot.{content}
 use Rattle.demands.specs.Runs.{Each, Pairs, Act, box, boxIn, next, run, after, pageIn, bandsIn, Stays, handed, Handed, F32, Whole64, insetAt, NoSmaller, EdgeToEdge, StartSplit, EndSplit, sideIn, containingLead, containingTrail, xFrom, bottom, rightEdge, farInset, LowEnough, ExactSum, contentAt, Between, sized, shareHeight, overlap, fitsExactly, Joins, Page64}
+use Rattle.demands.proofs.Steps.{StepsTo, place-few}
+use Rattle.demands.proofs.More.{place-more}
 use Rattle.demands.proofs.Splits.{start-split, end-split}
 use Rattle.demands.proofs.Input.{cleaned-fits}
-use Rattle.demands.proofs.Whole.{StepsTo, Lies, spot-in, place-ok}
+use Rattle.demands.proofs.Whole.{Lies, spot-in, place-ok}
 use Rattle.demands.proofs.Reach.{inset-in-reach, flat-not-6}
 use Rattle.demands.proofs.Structs.{page-placed}
 use Rattle.demands.proofs.Exact.{fits-idle}
@@ -61,12 +63,12 @@ no-inset-smaller os more f g s =
 
 -- a further box adds at most two bands
 pub two-bands-more : (os : List Act) (c : Call) → Handed F32 os → Each F32 (handed (box c)) → length (bandsIn (next (after os) (box c))) ≤ length (bandsIn (after os)) + 2
-two-bands-more os c f g = subst (λ (q : Page). length (q .bands) ≤ length (bandsIn (after os)) + 2) (sym (page-placed (after os .struct) c)) (place-ok (pageIn (after os)) (after os .accepted) c (reached os f) g .more)
+two-bands-more os c f g = subst (λ (q : Page). length (q .bands) ≤ length (bandsIn (after os)) + 2) (sym (page-placed (after os .struct) c)) (place-more (pageIn (after os)) c)
 
 -- on n bands it takes at most 2n steps
 pub steps-at-most : (os : List Act) (c : Call) → Handed F32 os → Each F32 (handed (box c)) → (x y : Float) (k : ℕ) → placeOf (after os .struct) c .answer ≡ PlaceAnswer.At x y k → k ≤ length (bandsIn (after os)) + length (bandsIn (after os))
 unfolding placeOf
-steps-at-most os c f g x y k e = subst (StepsTo (length (bandsIn (after os)))) e (place-ok (pageIn (after os)) (after os .accepted) c (reached os f) g .steps)
+steps-at-most os c f g x y k e = subst (StepsTo (length (bandsIn (after os)))) e (place-few (pageIn (after os)) c)
 
 -- the start band is left whole or split strictly inside; then so is the end band, of the bands as they stand
 pub splits-inside : (os : List Act) (c : Call) → Handed F32 os → Each F32 (handed (box c)) → inputCheck (cleaned c) ≡ Check.Passed → spotOf (pageIn (after os)) (cleaned c) .start < length (bandsIn (after os))

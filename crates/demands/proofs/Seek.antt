@@ -2,13 +2,13 @@
 use mathlib.Core.Path.{_≡_, refl, sym, ap, subst}
 use mathlib.Core.Logic.{_⊎_, inl, inr}
 use Prim.Native.Nat.{ℕ, zero, suc, _+_, _-_, _≤_, _<_, max}
-use native.Mathlib.Nat.{le-of-suc-le-suc, not-suc-le-zero}
+use native.Mathlib.Nat.{not-suc-le-zero}
 use native.Mathlib.Decide.{decLe}
 use native.Mathlib.Omega.{arith}
 use mathlib.Core.Bool.{Bool, true, false, not, cond}
-use mathlib.Core.List.{List, [], _∷_}
+use mathlib.Core.List.{List}
 use lib.Dec.{T, ltb, eqb, ltb→lt, nltb→le, eqb→eq, eqb-refl, T-not}
-use lib.Ieee.{Float, inf, binary32, binary64, add, sub, lt, le}
+use lib.Ieee.{Float, inf, binary32, binary64, add, sub, le}
 use lib.ListN.{length, getD}
 use Rattle.f32_laws.specs.Numbers.{larger, zero+}
 use Rattle.f32_laws.proofs.Tests.{both}
@@ -18,7 +18,7 @@ use Rattle.float.specs.declared.Segment.{Segment}
 use Rattle.float.specs.declared.fit.Ask.{Ask}
 use Rattle.float.specs.declared.search.Reach.{Reach}
 use Rattle.float.specs.declared.search.Spot.{Spot}
-use Rattle.float.specs.Bands.{other, lead, none, firstBelow}
+use Rattle.float.specs.Bands.{other, lead, none}
 use Rattle.float.specs.Fit.{placedAt, fits}
 use Rattle.float.specs.Search.{State, atStart, atEnd, Turn, spot, joined, opened, taller, giveUp, highTurn, joinTurn, endTurn, fitTurn, startTurn, turn, search, searchFrom}
 use Rattle.demands.proofs.Laws.{k, Val, Ins, zero-k, ins-zero, larger-ins, larger-top, fits-down}
@@ -412,26 +412,3 @@ module _ (l : List Segment) (a : Ask) (F : ℕ) (y0 : Float) (H : Count l) where
         go : Falls (a .side) F l ⊎ Falls (other (a .side)) F l → Passed s s
         go (inl p) = inl (p, λ i u w. absurd (not-suc-le-zero {n = 0} (omega arith)))
         go (inr p) = inr (p, λ i u w. absurd (not-suc-le-zero {n = 0} (omega arith)))
-
--- the first band
-pub first-le : (l : List Segment) (f : ℕ) (y : Float) → firstBelow l f y ≤ length l
-unfolding firstBelow
-first-le [] f y = omega arith
-first-le (b ∷ bs) zero y = go (lt y (b .end)) (first-le bs zero y)
-  where
-    go : (t : Bool) → firstBelow bs zero y ≤ length bs → (elim t [ true ↦ 0 | false ↦ suc (firstBelow bs zero y) ]) ≤ suc (length bs)
-    go true h = omega arith
-    go false h = omega arith
-first-le (b ∷ bs) (suc f) y = omega (arith, first-le bs f y)
-
-pub first-ge : (l : List Segment) (f : ℕ) (y : Float) → f ≤ length l → f ≤ firstBelow l f y
-unfolding firstBelow
-first-ge [] f y h = h
-first-ge (b ∷ bs) zero y h = omega arith
-first-ge (b ∷ bs) (suc f) y h = omega (arith, first-ge bs f y (le-of-suc-le-suc h))
-
-pub first-far : (l : List Segment) (f : ℕ) (y : Float) → length l ≤ f → firstBelow l f y ≡ length l
-unfolding firstBelow
-first-far [] f y h = refl
-first-far (b ∷ bs) zero y h = absurd (not-suc-le-zero h)
-first-far (b ∷ bs) (suc f) y h = ap suc (first-far bs f y (le-of-suc-le-suc h))

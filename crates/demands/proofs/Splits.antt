@@ -1,12 +1,12 @@
 -- Every split falls strictly inside its band: the search takes a start with y at its start or strictly inside, and the end is split by its own test.
-use mathlib.Core.Path.{_≡_, refl, sym, ap, subst}
+use mathlib.Core.Path.{_≡_, refl, ap}
 use mathlib.Core.Logic.{_⊎_, inl, inr}
-use Prim.Native.Nat.{ℕ, zero, suc, _≤_, _<_, max}
-use native.Mathlib.Nat.{le-of-suc-le-suc, not-suc-le-zero}
+use Prim.Native.Nat.{ℕ, suc, _≤_, _<_, max}
+use native.Mathlib.Nat.{not-suc-le-zero}
 use native.Mathlib.Decide.{decLe}
 use native.Mathlib.Omega.{arith}
-use mathlib.Core.Bool.{Bool, true, false, not}
-use mathlib.Core.List.{List, [], _∷_}
+use mathlib.Core.Bool.{true, not}
+use mathlib.Core.List.{List}
 use lib.Dec.{T, ltb, eqb, ltb→lt, nltb→le, T-not}
 use lib.Ieee.{Float, inf, binary32, add, lt, le, eq}
 use lib.Ieee.Fits.{and-l, and-r}
@@ -20,7 +20,7 @@ use Rattle.float.specs.declared.Segment.{Segment}
 use Rattle.float.specs.declared.fit.Ask.{Ask}
 use Rattle.float.specs.declared.search.Reach.{Reach}
 use Rattle.float.specs.declared.search.Spot.{Spot}
-use Rattle.float.specs.Bands.{lead, trail, none, splitAt, firstBelow}
+use Rattle.float.specs.Bands.{lead, trail, none, splitAt}
 use Rattle.float.specs.Fit.{fits}
 use Rattle.float.specs.Search.{State, atStart, atEnd, joined, opened, taller, giveUp, highTurn, joinTurn, endTurn, fitTurn, startTurn, turn, searchFrom}
 use Rattle.float.specs.Place.{Made, walked, inside, startedAt, make}
@@ -28,17 +28,6 @@ use Rattle.demands.specs.Runs.{StrictlyIn, StartSplit, EndSplit}
 use Rattle.demands.proofs.Laws.{k}
 use Rattle.demands.proofs.Chain.{Chain, chain-at, chain-next}
 use Rattle.demands.proofs.Turns.{Ordered, Keeps, search-has}
-
--- the first band below a height ends strictly below it
-pub first-end : (l : List Segment) (f : ℕ) (y : Float) → firstBelow l f y < length l → T (lt y (getD l (firstBelow l f y) none .end))
-unfolding firstBelow
-first-end [] f y h = absurd (not-suc-le-zero h)
-first-end (b ∷ bs) zero y h = go (lt y (b .end)) refl (first-end bs zero y) h
-  where
-    go : (t : Bool) → lt y (b .end) ≡ t → (firstBelow bs zero y < length bs → T (lt y (getD bs (firstBelow bs zero y) none .end))) → (elim t [ true ↦ 0 | false ↦ suc (firstBelow bs zero y) ]) < suc (length bs) → T (lt y (getD (b ∷ bs) (elim t [ true ↦ 0 | false ↦ suc (firstBelow bs zero y) ]) none .end))
-    go true e r h = subst T (sym e) tt
-    go false e r h = r (le-of-suc-le-suc h)
-first-end (b ∷ bs) (suc f) y h = first-end bs f y (le-of-suc-le-suc h)
 
 -- ---- the start
 -- y is the band's start, or strictly inside

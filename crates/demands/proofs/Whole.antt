@@ -35,11 +35,10 @@ use Rattle.demands.specs.Runs.{Each, Pairs, Accepted, boxIn, lastInset, 
 use Rattle.demands.proofs.Laws.{k, Val, Ins, on-either, ins-zero, ins-val, sum-val, sum-ins, sum-grows}
 use Rattle.demands.proofs.Chain.{Chain, chain-at, chain-mark, length-mark}
 use Rattle.demands.proofs.Heights.{Grows, grows-refl, grows-trans, grows-mark}
-use Rattle.demands.proofs.Turns.{search-steps}
-use Rattle.demands.proofs.More.{two-more}
+use Rattle.demands.proofs.First.{first-end, first-le, first-ge, first-far}
+use Rattle.demands.proofs.Splits.{Taken, start-in}
 use Rattle.demands.proofs.Leads.{search-leads}
-use Rattle.demands.proofs.Splits.{first-end, Taken, start-in}
-use Rattle.demands.proofs.Seek.{Falls, Asked, Count, no-count, Found, search-law, first-le, first-ge, first-far}
+use Rattle.demands.proofs.Seek.{Falls, Asked, Count, no-count, Found, search-law}
 use Rattle.demands.proofs.Make.{MadeOk, make-ok}
 use Rattle.demands.proofs.Input.{Known, known, check-both, plus-fits, cleaned-fits, asked, bottomOn, BottomIs, AtMost, lower-is, counted-is, lowest-is, larger-val, ceiling-keeps, ceiling-takes, lowest-over, low-enough}
 use Rattle.demands.proofs.Lists.{each-append, pairs-append, each-map}
@@ -92,11 +91,6 @@ fresh-inv = record {
   rises = tt;
 }
 
--- the steps of an answer are at most 2n
-abbrev pub StepsTo : ℕ → PlaceAnswer → Type 0
-StepsTo n (PlaceAnswer.At x y s) = s ≤ n + n
-StepsTo n (PlaceAnswer.Refused m) = Unit {0}
-
 -- the y of an answer is low enough
 abbrev pub Lies : Page → Call → PlaceAnswer → Type 0
 Lies p c (PlaceAnswer.At x y s) = LowEnough p c y
@@ -106,12 +100,10 @@ Lies p c (PlaceAnswer.Refused m) = Unit {0}
 pub record Step (p : Page) (g : List Accepted) (c : Call) (r : Result) : Type 0 where
   pub inv : Inv (r .page) (noted (r .answer) c (r .page) g)
   pub grows : Grows (p .bands) (r .page .bands)
-  pub more : length (r .page .bands) ≤ length (p .bands) + 2
-  pub steps : StepsTo (length (p .bands)) (r .answer)
   pub lies : Lies p c (r .answer)
 
 refuse-ok : (p : Page) (g : List Accepted) (c : Call) (n : Refusal) → Inv p g → Step p g c (refuse p n)
-refuse-ok p g c n v = record { inv = v; grows = grows-refl (p .bands); more = omega arith; steps = tt; lies = tt }
+refuse-ok p g c n v = record { inv = v; grows = grows-refl (p .bands); lies = tt }
 
 -- ---- the two sides
 sides : (q r : FloatDirection) (f : ℕ) (l : List Segment) → Falls q f l ⊎ Falls (other q) f l → Falls r f l ⊎ Falls (other r) f l
@@ -211,7 +203,7 @@ module _ (p : Page) (g : List Accepted) (a : Ask) (i : Float) (m : Made) (v : In
       K x = x .first ≤ x .past
 
 -- ---- a placement whose input is in order
-module _ (p : Page) (g : List Accepted) (c : Call) (s : Spot) (v : Inv p g) (q : Asked (askOf p c)) (h : (z : Float) → AtMost z (p .ceiling) → k z ≤ k (lowest p c)) (e : (y : Float) → Val y → k (lowest p c) ≤ k y → LowEnough p c y) (n : length (p .boxes) < maxBoxes) (few : s .steps ≤ length (p .bands) + length (p .bands)) (H : Count (p .bands)) (f : Found (p .bands) (askOf p c) (firstOf p) (lowest p c) H s) (r : T (le (askOf p c .«cb_lead») (s .inset))) where
+module _ (p : Page) (g : List Accepted) (c : Call) (s : Spot) (v : Inv p g) (q : Asked (askOf p c)) (h : (z : Float) → AtMost z (p .ceiling) → k z ≤ k (lowest p c)) (e : (y : Float) → Val y → k (lowest p c) ≤ k y → LowEnough p c y) (n : length (p .boxes) < maxBoxes) (H : Count (p .bands)) (f : Found (p .bands) (askOf p c) (firstOf p) (lowest p c) H s) (r : T (le (askOf p c .«cb_lead») (s .inset))) where
   put-ok : Step p g c (put p (askOf p c) s)
   unfolding put flat high
   put-ok =
@@ -220,8 +212,6 @@ module _ (p : Page) (g : List Accepted) (c : Call) (s : Spot) (v : Inv p g) (q :
       (λ u. record {
         inv = counted-ok p g c a (s .inset) (xOf a (s .inset)) (s .y) v q (f .y) (and-l (inReach (add binary32 (s .y) (a .height))) (inReach (add binary32 (s .inset) (a .width))) u) n (λ z o. omega (arith, f .low, h z o)) (box-noted p c (s .inset) (xOf a (s .inset)) (s .y)) r refl;
         grows = grows-refl (p .bands);
-        more = omega arith;
-        steps = few;
         lies = e (s .y) (f .y) (f .low);
       })
       (λ u. refuse-ok p g c Refusal.TooFar v))
@@ -233,8 +223,6 @@ module _ (p : Page) (g : List Accepted) (c : Call) (s : Spot) (v : Inv p g) (q :
       (λ w. let l = leb→le (length (m .bands)) maxBands w in record {
         inv = counted-ok (recorded p a (s .inset) m) g c a (s .inset) (xOf a (s .inset)) (m .y) (recorded-ok p g a (s .inset) m v q (f .inset) z l D o) q (d .0 .0) x n (λ z o. omega (arith, f .low, d .0 .1, h z o)) (box-noted p c (s .inset) (xOf a (s .inset)) (m .y)) r refl;
         grows = recorded-grows p g a (s .inset) m v q (f .inset) z l D o;
-        more = omega (arith, same-length p g a (s .inset) m v q (f .inset) z l D o, two-more a (p .bands) s);
-        steps = few;
         lies = e (m .y) (d .0 .0) (omega (arith, f .low, d .0 .1));
       })
       (λ w. refuse-ok p g c Refusal.BandsFull v))
@@ -292,15 +280,11 @@ module _ (p : Page) (g : List Accepted) (c : Call) (v : Inv p g) (n : Each Known
   unfolding spotOf
   spot-in = start-in (p .bands) (askOf p c) (v .chain) _ _ (first-le (p .bands) _ _) (lowest-val .num) (first-end (p .bands) _ _)
 
-spot-steps : (p : Page) (c : Call) → spotOf p c .steps ≤ length (p .bands) + length (p .bands)
-unfolding spotOf
-spot-steps p c = search-steps (p .bands) (askOf p c) _ _ (first-le (p .bands) _ _)
-
 admitted-ok : (p : Page) (g : List Accepted) (c : Call) → Inv p g → Each Known (numbers c) → Step p g c (admitted p c)
 unfolding admitted
 admitted-ok p g c v n =
     both (Step p g c) (ltb (length (p .boxes)) maxBoxes)
-    (λ w. put-ok p g c (spotOf p c) v (asked p c (v .width) n) (lowest-over p c (n .1 .1 .0) (v .ceiling) (v .bottom)) (low-enough p c (n .1 .1 .0) (v .ceiling) (v .bottom)) (ltb→lt (length (p .boxes)) maxBoxes w) (spot-steps p c) (no-count (p .bands)) (spot-ok p g c v n (no-count (p .bands)) tt tt) (spot-leads p g c v n))
+    (λ w. put-ok p g c (spotOf p c) v (asked p c (v .width) n) (lowest-over p c (n .1 .1 .0) (v .ceiling) (v .bottom)) (low-enough p c (n .1 .1 .0) (v .ceiling) (v .bottom)) (ltb→lt (length (p .boxes)) maxBoxes w) (no-count (p .bands)) (spot-ok p g c v n (no-count (p .bands)) tt tt) (spot-leads p g c v n))
     (λ w. refuse-ok p g c Refusal.BoxesFull v)
 
 -- one placement
