@@ -30,11 +30,11 @@ use Rattle.demands.specs.Runs.{Each, Pairs, Accepted, noted, insetAt, si
 use Rattle.demands.proofs.Laws.{k, B, Val, Ins, zero-k, ins-zero, ins-val, sum-ins}
 use Rattle.demands.proofs.Chain.{chain-mark, length-mark, mark-in, mark-start, mark-end}
 use Rattle.demands.proofs.Heights.{at-band}
+use Rattle.demands.proofs.Whole.{Inv, Step, last-inset}
 use Rattle.demands.proofs.Seek.{Found}
 use Rattle.demands.proofs.Make.{MadeOk, make-ok}
 use Rattle.demands.proofs.Input.{bottomOn, BottomIs, lower-is, counted-is}
 use Rattle.demands.proofs.Lists.{each-append, pairs-append, each-map, each-both}
-use Rattle.demands.proofs.Whole.{Inv, Step, last-inset}
 use Rattle.demands.proofs.Exact.{Q, q-larger, q-sum, sum-exact, fit-trail, fit-lead, Ask64}
 use Rattle.demands.proofs.Bands64.{Band64, mark64, count64, make64, deep, Met, beside}
 

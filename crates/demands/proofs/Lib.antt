@@ -12,7 +12,7 @@ pub mod Make
 pub mod Input
 pub mod Ways
 pub mod Steps
-pub mod More
+pub mod Added
 pub mod Lists
 pub mod Whole
 pub mod Reach

@@ -26,7 +26,7 @@ use Rattle.float.specs.Place.{Call, cleaned, numbers, inputCheck, askOf, spotOf
 use Rattle.float.specs.Slot.{content}
 use Rattle.demands.specs.Runs.{Each, Pairs, Act, box, boxIn, next, run, after, pageIn, bandsIn, Stays, handed, Handed, F32, Whole64, insetAt, NoSmaller, EdgeToEdge, StartSplit, EndSplit, sideIn, containingLead, containingTrail, xFrom, bottom, rightEdge, farInset, LowEnough, ExactSum, contentAt, Between, sized, shareHeight, overlap, fitsExactly, Joins, Page64}
 use Rattle.demands.proofs.Steps.{StepsTo, place-few}
-use Rattle.demands.proofs.More.{place-more}
+use Rattle.demands.proofs.Added.{place-more}
 use Rattle.demands.proofs.Splits.{start-split, end-split}
 use Rattle.demands.proofs.Input.{cleaned-fits}
 use Rattle.demands.proofs.Whole.{Lies, spot-in, place-ok}
