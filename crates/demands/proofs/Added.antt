@@ -2,19 +2,19 @@
 use Prim.Native.Nat.{ℕ, zero, suc, _+_, _≤_}
 use native.Mathlib.Omega.{arith}
 use mathlib.Core.List.{List, [], _∷_, _++_}
-use lib.Dec.{ltb}
-use lib.Ieee.{Float, binary32, add, lt, eq}
-use lib.ListN.{length, getD, length-append}
+use lib.Ieee.{Float, binary32, add, lt}
+use lib.ListN.{length, length-append}
 use Rattle.f32_laws.specs.Numbers.{larger, zero+}
 use Rattle.f32_laws.proofs.Tests.{both}
 use Rattle.float.specs.declared.Segment.{Segment}
 use Rattle.float.specs.declared.fit.Ask.{Ask}
 use Rattle.float.specs.declared.search.Spot.{Spot}
 use Rattle.float.specs.Refuse.{sideOf}
-use Rattle.float.specs.Bands.{none, bare, splitAt}
+use Rattle.float.specs.Bands.{bare, splitAt}
 use Rattle.float.specs.Page.{Page}
-use Rattle.float.specs.Place.{Made, seed, endOf, gapped, walked, inside, startedAt, make, askOf, spotOf, Call, cleaned, place}
+use Rattle.float.specs.Place.{seed, endOf, gapped, walked, startedAt, make, askOf, spotOf, Call, cleaned, place}
 use Rattle.demands.proofs.Chain.{length-mark}
+use Rattle.demands.proofs.Splits.{started-ways, make-ways}
 use Rattle.demands.proofs.Ways.{place-ways}
 
 -- at most n more than l
@@ -33,32 +33,21 @@ one-added l b = omega (arith, length-append l (b ∷ []))
 module _ (a : Ask) (l : List Segment) where
   -- rule 7 once the start is split: a split end, or an added band
   one-end : (s e : ℕ) (y : Float) → More l 1 (startedAt a l s e y .bands)
-  one-end s e y =
-      both P (ltb e (length l))
-      (λ t. both P (inside (getD l (walked l s b e) none) b) (λ u. one-split l (walked l s b e) b) (λ u. omega arith))
-      (λ t. both P (lt (endOf l) b) (λ u. one-added l (seed a (endOf l) b)) (λ u. omega arith))
+  one-end s e y = started-ways (λ m. More l 1 (m .bands)) a l s e y (λ o u. one-split l (walked l s b e) b) (λ o. omega arith) (λ o u. one-added l (seed a (endOf l) b)) (λ o u. omega arith)
     where
       b : Float
       b = add binary32 y (a .height)
-
-      P : Made → Type 0
-      P m = More l 1 (m .bands)
 
   -- rule 6: a gap and the box's own
   one-gap : (z y : Float) → More l 1 (gapped l z y)
   one-gap z y = both (More l 1) (lt z y) (λ u. one-added l (bare z y zero+ zero+)) (λ u. omega arith)
 
 two-more : (a : Ask) (l : List Segment) (p : Spot) → length (make a l p .bands) ≤ length l + 2
-unfolding make
 two-more a l p =
-    both P (ltb (p .start) (length l))
-    (λ t. both P (eq (p .y) (getD l (p .start) none .start))
-    (λ u. omega (arith, one-end a l (p .start) (p .end) (p .y)))
-    (λ u. omega (arith, one-split l (p .start) (p .y), one-end a (splitAt l (p .start) (p .y)) (suc (p .start)) (suc (p .end)) (p .y))))
-    (λ t. omega (arith, one-gap a l (endOf l) (p .y), one-added (gapped l (endOf l) (p .y)) (seed a (larger (endOf l) (p .y)) (add binary32 (larger (endOf l) (p .y)) (a .height)))))
-  where
-    P : Made → Type 0
-    P m = More l 2 (m .bands)
+    make-ways (λ m. More l 2 (m .bands)) a l p
+    (λ o. omega (arith, one-end a l (p .start) (p .end) (p .y)))
+    (λ o u. omega (arith, one-split l (p .start) (p .y), one-end a (splitAt l (p .start) (p .y)) (suc (p .start)) (suc (p .end)) (p .y)))
+    (λ o. omega (arith, one-gap a l (endOf l) (p .y), one-added (gapped l (endOf l) (p .y)) (seed a (larger (endOf l) (p .y)) (add binary32 (larger (endOf l) (p .y)) (a .height)))))
 
 pub place-more : (p : Page) (c : Call) → length (place p c .page .bands) ≤ length (p .bands) + 2
 place-more p c =

@@ -1,12 +1,12 @@
 -- Every split falls strictly inside its band: the search takes a start with y at its start or strictly inside, and the end is split by its own test.
 use mathlib.Core.Path.{_≡_, refl, ap}
 use mathlib.Core.Logic.{_⊎_, inl, inr}
-use Prim.Native.Nat.{ℕ, suc, _≤_, _<_, max}
+use Prim.Native.Nat.{ℕ, suc, _-_, _≤_, _<_, max}
 use native.Mathlib.Nat.{not-suc-le-zero}
 use native.Mathlib.Decide.{decLe}
 use native.Mathlib.Omega.{arith}
 use mathlib.Core.Bool.{true, not}
-use mathlib.Core.List.{List}
+use mathlib.Core.List.{List, [], _∷_, _++_}
 use lib.Dec.{T, ltb, eqb, ltb→lt, nltb→le, T-not}
 use lib.Ieee.{Float, inf, binary32, add, lt, le, eq}
 use lib.Ieee.Fits.{and-l, and-r}
@@ -23,11 +23,40 @@ use Rattle.float.specs.declared.search.Spot.{Spot}
 use Rattle.float.specs.Bands.{lead, trail, none, splitAt}
 use Rattle.float.specs.Fit.{fits}
 use Rattle.float.specs.Search.{State, atStart, atEnd, joined, opened, taller, giveUp, highTurn, joinTurn, endTurn, fitTurn, startTurn, turn, searchFrom}
-use Rattle.float.specs.Place.{Made, walked, inside, startedAt, make}
+use Rattle.float.specs.Place.{Made, seed, endOf, belowAll, walked, inside, startedAt, make}
 use Rattle.demands.specs.Runs.{StrictlyIn, StartSplit, EndSplit}
 use Rattle.demands.proofs.Laws.{k}
 use Rattle.demands.proofs.Chain.{Chain, chain-at, chain-next}
 use Rattle.demands.proofs.Turns.{Ordered, Keeps, search-has}
+
+-- ---- the ways of rules 6 and 7, with what the tests say of a split
+module _ (P : Made → Type 0) (a : Ask) (l : List Segment) where
+  module _ (s e : ℕ) (y : Float) where
+    abbrev b : Float
+    b = add binary32 y (a .height)
+
+    abbrev w : ℕ
+    w = walked l s b e
+
+    -- the end band split or left, or running past the last
+    pub started-ways : (e < length l → StrictlyIn (getD l w none) b → P (record { bands = splitAt l w b; start = s; end = w; y = y })) → (e < length l → P (record { bands = l; start = s; end = w; y = y }))
+        → (length l ≤ e → T (lt (endOf l) b) → P (record { bands = l ++ seed a (endOf l) b ∷ []; start = s; end = length l; y = y })) → (length l ≤ e → T (not (lt (endOf l) b)) → P (record { bands = l; start = s; end = length l - 1; y = y }))
+        → P (startedAt a l s e y)
+    started-ways f g h i =
+        let d = getD l w none in
+        both P (ltb e (length l))
+        (λ t. let o = ltb→lt e (length l) t in both P (inside d b) (λ u. f o (and-l (lt (d .start) b) (lt b (d .end)) u, and-r (lt (d .start) b) (lt b (d .end)) u)) (λ u. g o))
+        (λ t. let o = nltb→le e (length l) t in both P (lt (endOf l) b) (h o) (i o))
+
+  -- the start band left or split, or below all
+  pub make-ways : (p : Spot) → (p .start < length l → P (startedAt a l (p .start) (p .end) (p .y)))
+      → (p .start < length l → T (not (eq (p .y) (getD l (p .start) none .start))) → P (startedAt a (splitAt l (p .start) (p .y)) (suc (p .start)) (suc (p .end)) (p .y)))
+      → (length l ≤ p .start → P (belowAll a l (endOf l) (p .y))) → P (make a l p)
+  unfolding make
+  make-ways p f g h =
+      both P (ltb (p .start) (length l))
+      (λ t. let o = ltb→lt (p .start) (length l) t in both P (eq (p .y) (getD l (p .start) none .start)) (λ u. f o) (g o))
+      (λ t. h (nltb→le (p .start) (length l) t))
 
 -- ---- the start
 -- y is the band's start, or strictly inside
@@ -93,11 +122,7 @@ module _ (l : List Segment) (a : Ask) (c : Chain (inf true) l) where
   start-in s y h v t = search-has l a Good Taken turn-in s y h (v, λ o. inr (lt→key v (chain-at (inf true) l s c o .end .num) (t o)))
 
   pub start-split : (p : Spot) → Taken p → p .start < length l → StartSplit a l p
-  unfolding make
-  start-split p w h =
-      both P (ltb (p .start) (length l))
-      (λ t. both P (eq (p .y) (getD l (p .start) none .start)) (λ u. inl refl) (λ u. inr (strictly (w h) u, refl)))
-      (λ t. absurd (not-suc-le-zero {n = 0} (omega (arith, nltb→le (p .start) (length l) t))))
+  start-split p w h = make-ways P a l p (λ o. inl refl) (λ o u. inr (strictly (w h) u, refl)) (λ o. absurd (not-suc-le-zero {n = 0} (omega arith)))
     where
       P : Made → Type 0
       P m = (m ≡ startedAt a l (p .start) (p .end) (p .y)) ⊎ (StrictlyIn (getD l (p .start) none) (p .y) × (m ≡ startedAt a (splitAt l (p .start) (p .y)) (suc (p .start)) (suc (p .end)) (p .y)))
@@ -111,16 +136,10 @@ module _ (l : List Segment) (a : Ask) (c : Chain (inf true) l) where
 
 -- ---- the end
 pub end-split : (a : Ask) (l : List Segment) (s e : ℕ) (y : Float) → e < length l → EndSplit a l s e y
-end-split a l s e y h =
-    both P (ltb e (length l))
-    (λ t. both P (inside d b) (λ u. inr ((and-l (lt (d .start) b) (lt b (d .end)) u, and-r (lt (d .start) b) (lt b (d .end)) u), refl)) (λ u. inl refl))
-    (λ t. absurd (not-suc-le-zero {n = 0} (omega (arith, nltb→le e (length l) t))))
+end-split a l s e y h = started-ways P a l s e y (λ o u. inr (u, refl)) (λ o. inl refl) (λ o. absurd (not-suc-le-zero {n = 0} (omega arith))) (λ o. absurd (not-suc-le-zero {n = 0} (omega arith)))
   where
-    b : Float
-    b = add binary32 y (a .height)
-
-    d : Segment
-    d = getD l (walked l s b e) none
+    i : ℕ
+    i = walked l s (add binary32 y (a .height)) e
 
     P : Made → Type 0
-    P m = (m .bands ≡ l) ⊎ (StrictlyIn d b × (m .bands ≡ splitAt l (walked l s b e) b))
+    P m = (m .bands ≡ l) ⊎ (StrictlyIn (getD l i none) (add binary32 y (a .height)) × (m .bands ≡ splitAt l i (add binary32 y (a .height))))
