@@ -128,6 +128,10 @@ last-inset p a i y =
 box-noted : (p : Page) (c : Call) (i x y : Float) → boxOf (askOf p c) i y ≡ boxIn (record { call = c; x = x; y = y; inset = i })
 box-noted p c i x y = refl
 
+-- x by side, as it is answered
+x-noted : (p : Page) (c : Call) (i y : Float) → xOf (askOf p c) i ≡ xFrom (p .width) (record { call = c; x = xOf (askOf p c) i; y = y; inset = i })
+x-noted p c i y = refl
+
 -- rule 1: the lead inset that is asked for is the call's own
 in-container : (p : Page) (c : Call) (i x y : Float) → T (le (askOf p c .«cb_lead») i) → T (le (containingLead (record { call = c; x = x; y = y; inset = i })) i)
 in-container p c i x y h = h
@@ -214,7 +218,7 @@ module _ (p : Page) (g : List Accepted) (c : Call) (s : Spot) (v : Inv p g) (q :
       both (Step p g c) (eq (c .height) zero+)
       (λ t. both (Step p g c) (near a (s .inset) (s .y))
       (λ u. record {
-        inv = counted-ok p g c a (s .inset) (xOf a (s .inset)) (s .y) v q (f .y) (and-l (inReach (add binary32 (s .y) (a .height))) (inReach (add binary32 (s .inset) (a .width))) u) n (λ z o. omega (arith, f .low, h z o)) (box-noted p c (s .inset) (xOf a (s .inset)) (s .y)) (in-container p c (s .inset) (xOf a (s .inset)) (s .y) r) refl;
+        inv = counted-ok p g c a (s .inset) (xOf a (s .inset)) (s .y) v q (f .y) (and-l (inReach (add binary32 (s .y) (a .height))) (inReach (add binary32 (s .inset) (a .width))) u) n (λ z o. omega (arith, f .low, h z o)) (box-noted p c (s .inset) (xOf a (s .inset)) (s .y)) (in-container p c (s .inset) (xOf a (s .inset)) (s .y) r) (x-noted p c (s .inset) (s .y));
         grows = grows-refl (p .bands);
         lies = e (s .y) (f .y) (f .low);
       })
@@ -225,7 +229,7 @@ module _ (p : Page) (g : List Accepted) (c : Call) (s : Spot) (v : Inv p g) (q :
       let o = d .1 x in
       both (Step p g c) (leb (length (m .bands)) maxBands)
       (λ w. let l = leb→le (length (m .bands)) maxBands w in record {
-        inv = counted-ok (recorded p a (s .inset) m) g c a (s .inset) (xOf a (s .inset)) (m .y) (recorded-ok p g a (s .inset) m v q (f .inset) z l D o) q (d .0 .0) x n (λ z o. omega (arith, f .low, d .0 .1, h z o)) (box-noted p c (s .inset) (xOf a (s .inset)) (m .y)) (in-container p c (s .inset) (xOf a (s .inset)) (m .y) r) refl;
+        inv = counted-ok (recorded p a (s .inset) m) g c a (s .inset) (xOf a (s .inset)) (m .y) (recorded-ok p g a (s .inset) m v q (f .inset) z l D o) q (d .0 .0) x n (λ z o. omega (arith, f .low, d .0 .1, h z o)) (box-noted p c (s .inset) (xOf a (s .inset)) (m .y)) (in-container p c (s .inset) (xOf a (s .inset)) (m .y) r) (x-noted p c (s .inset) (m .y));
         grows = recorded-grows p g a (s .inset) m v q (f .inset) z l D o;
         lies = e (m .y) (d .0 .0) (omega (arith, f .low, d .0 .1));
       })
