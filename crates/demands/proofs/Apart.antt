@@ -7,13 +7,13 @@ use native.Mathlib.Omega.{arith}
 use mathlib.Core.Bool.{Bool, true, false}
 use mathlib.Core.List.{List, [], _∷_, _++_}
 use lib.Dec.{T, leb}
-use lib.Ieee.{Float, inf, binary32, add, sub, eq}
+use lib.Ieee.{Float, inf, binary32, add, le, eq}
 use lib.Ieee.Fits.{and-l, and-r}
 use lib.ListN.{length, getD}
 use Rattle.f32_laws.specs.Numbers.{larger, zero+}
 use Rattle.f32_laws.specs.Key.{Num}
 use Rattle.f32_laws.proofs.Tests.{both}
-use Rattle.f32_laws.proofs.Keys.{eq→key}
+use Rattle.f32_laws.proofs.Keys.{le→key, eq→key}
 use Rattle.f32_laws.proofs.Larger.{larger-key}
 use Rattle.float.specs.declared.Bottom.{Bottom}
 use Rattle.float.specs.declared.FloatDirection.{FloatDirection}
@@ -22,7 +22,7 @@ use Rattle.float.specs.declared.Segment.{Segment}
 use Rattle.float.specs.declared.fit.Ask.{Ask}
 use Rattle.float.specs.declared.search.Spot.{Spot}
 use Rattle.float.specs.Numbers.{inReach}
-use Rattle.float.specs.Bands.{onSide, sameSide, other, lead, none, markAll}
+use Rattle.float.specs.Bands.{sameSide, other, lead, none, markAll}
 use Rattle.float.specs.Page.{Page, maxBands}
 use Rattle.float.specs.Fit.{placedAt}
 use Rattle.float.specs.Place.{Call, Result, Made, make, recorded, counted, askOf, firstOf, xOf, near, high, flat, put}
@@ -30,11 +30,11 @@ use Rattle.demands.specs.Runs.{Each, Pairs, Accepted, noted, insetAt, si
 use Rattle.demands.proofs.Laws.{k, B, Val, Ins, zero-k, ins-zero, ins-val, sum-ins}
 use Rattle.demands.proofs.Chain.{chain-mark, length-mark, mark-in, mark-start, mark-end}
 use Rattle.demands.proofs.Heights.{at-band}
+use Rattle.demands.proofs.Whole.{Inv, Step, last-inset}
 use Rattle.demands.proofs.Seek.{Found}
 use Rattle.demands.proofs.Make.{MadeOk, make-ok}
 use Rattle.demands.proofs.Input.{bottomOn, BottomIs, lower-is, counted-is}
 use Rattle.demands.proofs.Lists.{each-append, pairs-append, each-map, each-both}
-use Rattle.demands.proofs.Whole.{Inv, Step, last-inset}
 use Rattle.demands.proofs.Exact.{Q, q-larger, q-sum, sum-exact, fit-trail, fit-lead, Ask64}
 use Rattle.demands.proofs.Bands64.{Band64, mark64, count64, make64, deep, Met, beside}
 
@@ -54,8 +54,8 @@ Clear false w a b = k (a .inset) + k (a .call .width) + (k (b .inset) + k (b .ca
 abbrev pub Beside : Float → Accepted → Accepted → Type 0
 Beside w a b = B < k (a .call .width) → (t : Float) → Num binary32 t → Inside a t → Inside b t → Clear (sameSide (sideIn a) (sideIn b)) w a b
 
--- an accepted placement's numbers, on a page of the width w
-pub record Box64 (w : Float) (a : Accepted) : Type 0 where
+-- an accepted placement's numbers
+pub record Box64 (a : Accepted) : Type 0 where
   pub width : Q (a .call .width)
   pub height : Q (a .call .height)
   pub inset : Q (a .inset)
@@ -67,7 +67,6 @@ pub record Box64 (w : Float) (a : Accepted) : Type 0 where
   pub trail' : Ins (containingTrail a)
   pub y' : Val (a .y)
   pub far : Q (add binary32 (a .inset) (a .call .width))
-  pub x : a .x ≡ onSide (sideIn a) (a .inset) (sub binary32 (sub binary32 w (a .inset)) (a .call .width))
 
 pub record Inv64 (p : Page) (g : List Accepted) : Type 0 where
   pub inv : Inv p g
@@ -75,7 +74,7 @@ pub record Inv64 (p : Page) (g : List Accepted) : Type 0 where
   pub bands : Each Band64 (p .bands)
   pub bottom : (r : FloatDirection) → BottomIs Q (bottomOn r p)
   pub ceiling : BottomIs Q (p .ceiling)
-  pub boxes : Each (Box64 (p .width)) g
+  pub boxes : Each Box64 g
   pub stands : Each (Stands (p .bands)) g
   pub beside : Pairs (Beside (p .width)) g
 
@@ -84,20 +83,20 @@ larger64 x y p q = q-larger p q
 
 -- ---- a box is counted, on a page whose bands were made for it
 counted64 : (n : Page) (g : List Accepted) (a : Ask) (i y : Float) (e : Accepted) → Inv (counted n a i y) (g ++ e ∷ []) → Q (n .width) → Each Band64 (n .bands) → ((r : FloatDirection) → BottomIs Q (bottomOn r n)) → BottomIs Q (n .ceiling) → Q y → Q (add binary32 y (a .height))
-    → Each (Box64 (n .width)) g → Box64 (n .width) e → Each (Stands (n .bands)) g → Stands (n .bands) e → Pairs (Beside (n .width)) g → Each (λ b. Beside (n .width) b e) g → Inv64 (counted n a i y) (g ++ e ∷ [])
+    → Each Box64 g → Box64 e → Each (Stands (n .bands)) g → Stands (n .bands) e → Pairs (Beside (n .width)) g → Each (λ b. Beside (n .width) b e) g → Inv64 (counted n a i y) (g ++ e ∷ [])
 counted64 n g a i y e iv w d bt cl qy qb bs b ss s os o = record {
   inv = iv;
   width = w;
   bands = d;
   bottom = counted-is Q larger64 n a i y bt qb;
   ceiling = lower-is Q larger64 (n .ceiling) (Bottom.At y) cl qy;
-  boxes = each-append (Box64 (n .width)) g e bs b;
+  boxes = each-append Box64 g e bs b;
   stands = each-append (Stands (n .bands)) g e ss s;
   beside = pairs-append (Beside (n .width)) g e os o;
 }
 
 -- ---- a placement
-module _ (p : Page) (g : List Accepted) (c : Call) (v : Inv64 p g) (q : Ask64 (askOf p c)) (y0 : Float) (s : Spot) (f : Found (p .bands) (askOf p c) (firstOf p) y0 (count64 (p .bands) (v .inv .chain) (v .bands)) s) where
+module _ (p : Page) (g : List Accepted) (c : Call) (v : Inv64 p g) (q : Ask64 (askOf p c)) (y0 : Float) (s : Spot) (f : Found (p .bands) (askOf p c) (firstOf p) y0 (count64 (p .bands) (v .inv .chain) (v .bands)) s) (r : T (le (askOf p c .«cb_lead») (s .inset))) where
   abbrev ask : Ask
   ask = askOf p c
 
@@ -107,7 +106,7 @@ module _ (p : Page) (g : List Accepted) (c : Call) (v : Inv64 p g) (q : Ask64 (a
   abbrev entry : Float → Accepted
   entry y = record { call = c; x = xOf ask (s .inset); y = y; inset = s .inset }
 
-  entry64 : (y : Float) → Q y → Val y → Q (add binary32 (s .inset) (c .width)) → Box64 (p .width) (entry y)
+  entry64 : (y : Float) → Q y → Val y → Q (add binary32 (s .inset) (c .width)) → Box64 (entry y)
   entry64 y u w e = record {
     width = q .width;
     height = q .height;
@@ -120,14 +119,13 @@ module _ (p : Page) (g : List Accepted) (c : Call) (v : Inv64 p g) (q : Ask64 (a
     trail' = q .asked .cbTrail;
     y' = w;
     far = e;
-    x = refl;
   }
 
   -- an earlier box of positive width that shares a height: a band from start to end is taken to its far edge
   abbrev Shared : Accepted → Type 0
   Shared b = (s .start < length (p .bands)) × (B < k (add binary32 (b .inset) (b .call .width))) × ((j : ℕ) × (s .start ≤ j) × (j ≤ s .end) × (j < length (p .bands)) × (k (add binary32 (b .inset) (b .call .width)) ≤ k (lead (sideIn b) (getD (p .bands) j none))))
 
-  shared : (b : Accepted) → Box64 (p .width) b → Stands (p .bands) b → B < k (b .call .width) → (t : Float) → Num binary32 t → Inside b t → Inside (entry (M .y)) t → Shared b
+  shared : (b : Accepted) → Box64 b → Stands (p .bands) b → B < k (b .call .width) → (t : Float) → Num binary32 t → Inside b t → Inside (entry (M .y)) t → Shared b
   shared b d st o t n x z = go (beside ask q (p .bands) (v .inv .chain) (v .bands) (firstOf p) y0 s f t n (z .0) (z .1))
     where
       up : B < k (add binary32 (b .inset) (b .call .width))
@@ -137,7 +135,7 @@ module _ (p : Page) (g : List Accepted) (c : Call) (v : Inv64 p g) (q : Ask64 (a
       go (inl e) = absurd (not-suc-le-zero {n = 0} (omega (arith, up, st t n x, ap k (e (sideIn b)), zero-k)))
       go (inr e) = let j = e .1 in (e .0, up, (j .0, j .1, j .2, j .3, omega (arith, st t n x, ap k (j .4 (sideIn b)))))
 
-  clear-new : (b : Accepted) → Box64 (p .width) b × Stands (p .bands) b → Beside (p .width) b (entry (M .y))
+  clear-new : (b : Accepted) → Box64 b × Stands (p .bands) b → Beside (p .width) b (entry (M .y))
   unfolding placedAt
   clear-new b d o t n x z = go (sideIn b) (sideIn (entry (M .y))) refl refl
     where
@@ -174,7 +172,7 @@ module _ (p : Page) (g : List Accepted) (c : Call) (v : Inv64 p g) (q : Ask64 (a
   abbrev Deep : Type 0
   Deep = s .end < length (p .bands) → k (add binary32 (s .y) (c .height)) ≤ k (getD (p .bands) (s .end) none .end)
 
-  stands-new : MadeOk (p .bands) ask (firstOf p) (s .inset) Deep 2 M → Ins (add binary32 (s .inset) (c .width)) → Stands (recorded p ask (s .inset) M .bands) (entry (M .y))
+  stands-new : MadeOk (p .bands) ask (firstOf p) (s .inset) Deep M → Ins (add binary32 (s .inset) (c .width)) → Stands (recorded p ask (s .inset) M .bands) (entry (M .y))
   stands-new o iv t n x =
       let r = ask .side in
       let e = add binary32 (s .inset) (c .width) in
@@ -215,15 +213,15 @@ module _ (p : Page) (g : List Accepted) (c : Call) (v : Inv64 p g) (q : Ask64 (a
       (v .boxes) (entry64 (M .y) (z .1) (made .0 .0) e)
       (each-map (Stands (p .bands)) (Stands (recorded p ask (s .inset) M .bands)) g (λ b h t' n i. omega (arith, h t' n i, st .grows (sideIn b) t' n)) (v .stands))
       (stands-new d (sum-ins (f .inset) (q .asked .width) x')) (v .beside)
-      (each-map (λ b. Box64 (p .width) b × Stands (p .bands) b) (λ b. Beside (p .width) b (entry (M .y))) g clear-new (each-both (Box64 (p .width)) (Stands (p .bands)) g (v .boxes) (v .stands)))) st)
+      (each-map (λ b. Box64 b × Stands (p .bands) b) (λ b. Beside (p .width) b (entry (M .y))) g clear-new (each-both Box64 (Stands (p .bands)) g (v .boxes) (v .stands)))) st)
       (λ w st. v))
       (λ u st. v))
     where
       edge : (y : Float) → T (near ask (s .inset) y) → Q (add binary32 (s .inset) (c .width))
       edge y u = q-sum (f .inset-ok) (q .width) (ins-val (f .inset)) (q .asked .width) (and-r (inReach (add binary32 y (c .height))) (inReach (add binary32 (s .inset) (c .width))) u)
 
-      made : (Val (M .y) × (k (s .y) ≤ k (M .y))) × (T (inReach (add binary32 (M .y) (c .height))) → MadeOk (p .bands) ask (firstOf p) (s .inset) Deep 2 M)
-      made = make-ok (p .bands) ask (firstOf p) y0 s (v .inv .chain) (q .asked) (v .inv .falls (ask .side)) (v .inv .first) (count64 (p .bands) (v .inv .chain) (v .bands)) f
+      made : (Val (M .y) × (k (s .y) ≤ k (M .y))) × (T (inReach (add binary32 (M .y) (c .height))) → MadeOk (p .bands) ask (firstOf p) (s .inset) Deep M)
+      made = make-ok (p .bands) ask (firstOf p) y0 s (v .inv .chain) (q .asked) (v .inv .falls (ask .side)) (v .inv .first) (count64 (p .bands) (v .inv .chain) (v .bands)) f (le→key (q .asked .cbLead .num) (f .inset .num) r)
 
       empty : (t' : Float) → T (eq (c .height) zero+) → Inside (entry (s .y)) t' → ⊥
       empty t' t i = omega (arith, i .0, i .1, sum-exact (f .y-ok) (q .height), eq→key (q .asked .height .num) (ins-zero .num) t, zero-k)

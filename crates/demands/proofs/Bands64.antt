@@ -8,15 +8,13 @@ use native.Mathlib.Omega.{arith}
 use mathlib.Core.Bool.{Bool, true, false, cond}
 use mathlib.Core.List.{List, [], _∷_, _++_}
 use lib.IntN.{pos}
-use lib.Dec.{T, ltb, ltb→lt, nltb→le}
-use lib.Ieee.{Float, inf, binary32, binary64, add, sub, lt, le, eq}
+use lib.Dec.{T}
+use lib.Ieee.{Float, inf, binary32, binary64, add, sub, lt, le}
 use lib.ListN.{length, getD}
 use Rattle.f32_laws.specs.Numbers.{larger, zero+}
 use Rattle.f32_laws.specs.Key.{Num}
 use Rattle.f32_laws.specs.Sixty.{in64}
-use Rattle.f32_laws.proofs.Tests.{both}
 use Rattle.f32_laws.proofs.Larger.{larger-key, larger-one}
-use Rattle.f32_laws.proofs.Limits.{u20-twice}
 use Rattle.f32_laws.proofs.Index64.{half-twice}
 use Rattle.float.specs.declared.FloatDirection.{FloatDirection}
 use Rattle.float.specs.declared.Segment.{Segment}
@@ -24,12 +22,13 @@ use Rattle.float.specs.declared.fit.Ask.{Ask}
 use Rattle.float.specs.declared.search.Spot.{Spot}
 use Rattle.float.specs.Numbers.{inReach}
 use Rattle.float.specs.Bands.{lead, none, bare, marked, splitAt, markAll, lastEnd}
-use Rattle.float.specs.Place.{Made, seed, endOf, gapped, walked, inside, startedAt, make}
+use Rattle.float.specs.Place.{Made, seed, endOf, gapped, walked, startedAt, make}
 use Rattle.demands.specs.Runs.{Each, insetAt}
-use Rattle.demands.proofs.Laws.{k, Val, Ins, Top, on-either, top-low}
+use Rattle.demands.proofs.Laws.{k, far-twice, Val, Ins, Top, on-either, top-low}
 use Rattle.demands.proofs.Chain.{Chain, chain-at, chain-next, chain-last, last-is}
 use Rattle.demands.proofs.Heights.{at-band, at-below}
-use Rattle.demands.proofs.Seek.{Holds, Count, Found}
+use Rattle.demands.proofs.Splits.{started-ways, make-ways}
+use Rattle.demands.proofs.Seek.{Count, Found}
 use Rattle.demands.proofs.Make.{seed-has, started-y}
 use Rattle.demands.proofs.Lists.{each-append}
 use Rattle.demands.proofs.Exact.{g, Q, q-key, q-zero, q-larger, q-sum, sum-exact, diff-count, count-of, count-add, count-le, cancel, Ask64}
@@ -81,12 +80,8 @@ module _ (l : List Segment) (c : Chain (inf true) l) (p : Each Band64 l) where
     where
       go : (i : ℕ) → i < length l → (larger y (getD l i none .start) ≡ y) ⊎ (larger y (getD l i none .start) ≡ getD l i none .start) → Q (larger y (getD l i none .start))
       go i h (inl e) = subst Q (sym e) q
-      go zero h (inr e) = absurd (not-suc-le-zero {n = 0} (omega (arith, ap k e, ap k (chain-first (inf true) l c h), larger-key (v .num) (chain-at (inf true) l 0 c h .start .num), v .low, u20-twice)))
+      go zero h (inr e) = absurd (not-suc-le-zero {n = 0} (omega (arith, ap k e, ap k (chain-first (inf true) l c h), larger-key (v .num) (chain-at (inf true) l 0 c h .start .num), v .low, far-twice)))
       go (suc i) h (inr e) = subst Q (sym (e ∙ chain-next (inf true) l i c h)) (band-at l i p (omega arith) .end)
-
-  pub in-band : (s : ℕ) (y : Float) → s < length l → Holds (getD l s none) y → k y ≤ k (getD l s none .end)
-  in-band s y h (inl e) = omega (arith, chain-at (inf true) l s c h .order)
-  in-band s y h (inr e) = omega arith
 
   pub next64 : (e : ℕ) (y z : Float) → suc e < length l → Way e y z → Way (suc e) y (add binary64 z (sub binary32 (getD l (suc e) none .end) (getD l (suc e) none .start)))
   next64 e y z h w =
@@ -119,7 +114,7 @@ module _ (l : List Segment) (c : Chain (inf true) l) (p : Each Band64 l) where
     ok-lead = λ r i h. band-at l i p h .inset r;
     ok-rise = rise;
     Has = Way;
-    open' = λ s y h v q a o. let d = diff-count (band-at l s p h .end) q (in-band s y h o) in (h, v, q, (d .0, d .1, omega (arith, d .2), omega (arith, d .3)));
+    open' = λ s y h v q a o. let d = diff-count (band-at l s p h .end) q o in (h, v, q, (d .0, d .1, omega (arith, d .2), omega (arith, d .3)));
     next = next64;
     skip = λ e y z h w. (h, w .1, w .2, (w .3 .0, w .3 .1, omega (arith, w .3 .2, ap k (chain-next (inf true) l e c h), chain-at (inf true) l (suc e) c h .order), w .3 .3));
   }
@@ -134,13 +129,11 @@ module _ (a : Ask) (q : Ask64 a) where
 
   started64 : (l : List Segment) (s e : ℕ) (y : Float) → Each Band64 l → Q y → Made64 (startedAt a l s e y)
   started64 l s e y p q' =
-      both Made64 (ltb e (length l))
-      (λ t. both Made64 (inside (getD l (walked l s b e) none) b)
-      (λ u x v. (split64 l (walked l s b e) b p (q-sum q' (q .height) v (q .asked .height) x), q'))
-      (λ u x v. (p, q')))
-      (λ t. both Made64 (lt (endOf l) b)
-      (λ u x v. (each-append Band64 l (seed a (endOf l) b) p (seed64 (q-sum q' (q .height) v (q .asked .height) x)), q'))
-      (λ u x v. (p, q')))
+      started-ways Made64 a l s e y
+      (λ o u x v. (split64 l (walked l s b e) b p (q-sum q' (q .height) v (q .asked .height) x), q'))
+      (λ o x v. (p, q'))
+      (λ o u x v. (each-append Band64 l (seed a (endOf l) b) p (seed64 (q-sum q' (q .height) v (q .asked .height) x)), q'))
+      (λ o u x v. (p, q'))
     where
       b : Float
       b = add binary32 y (a .height)
@@ -156,18 +149,16 @@ module _ (a : Ask) (q : Ask64 a) where
   below-y [] y c p v q' = go (larger-one (inf true) y)
     where
       go : (larger (inf true) y ≡ (inf true)) ⊎ (larger (inf true) y ≡ y) → Q (larger (inf true) y)
-      go (inl e) = absurd (not-suc-le-zero {n = 0} (omega (arith, ap k e, larger-key (top-low .num) (v .num), v .low, u20-twice)))
+      go (inl e) = absurd (not-suc-le-zero {n = 0} (omega (arith, ap k e, larger-key (top-low .num) (v .num), v .low, far-twice)))
       go (inr e) = subst Q (sym e) q'
   below-y (b ∷ bs) y c p v q' = q-larger (last64 (b .end) bs y (p .1) (p .0 .end)) q'
 
   pub make64 : (l : List Segment) (p : Spot) → Chain (inf true) l → Each Band64 l → Val (p .y) → Q (p .y) → Made64 (make a l p)
-  unfolding make
   make64 l p c d v q' =
-      both Made64 (ltb (p .start) (length l))
-      (λ t. both Made64 (eq (p .y) (getD l (p .start) none .start))
-      (λ u. started64 l (p .start) (p .end) (p .y) d q')
-      (λ u. started64 (splitAt l (p .start) (p .y)) (suc (p .start)) (suc (p .end)) (p .y) (split64 l (p .start) (p .y) d q') q'))
-      (λ t x w. let z = below-y l (p .y) c d v q' in
+      make-ways Made64 a l p
+      (λ o. started64 l (p .start) (p .end) (p .y) d q')
+      (λ o u. started64 (splitAt l (p .start) (p .y)) (suc (p .start)) (suc (p .end)) (p .y) (split64 l (p .start) (p .y) d q') q')
+      (λ o x w. let z = below-y l (p .y) c d v q' in
       (each-append Band64 (gapped l (endOf l) (p .y)) (seed a (larger (endOf l) (p .y)) (add binary32 (larger (endOf l) (p .y)) (a .height))) (gap (lt (endOf l) (p .y))) (seed64 (q-sum z (q .height) w (q .asked .height) x)), z))
     where
       gap : (t : Bool) → Each Band64 (cond t (l ++ bare (endOf l) (p .y) zero+ zero+ ∷ []) l)
@@ -179,13 +170,11 @@ module _ (a : Ask) (q : Ask64 a) where
   Y l p m = (p .start < length l → m .y ≡ p .y) × (length l ≤ p .start → m .y ≡ larger (endOf l) (p .y))
 
   make-y : (l : List Segment) (p : Spot) → Y l p (make a l p)
-  unfolding make
-  make-y l p = both (Y l p) (ltb (p .start) (length l))
-      (λ t. let h = ltb→lt (p .start) (length l) t in
-      both (Y l p) (eq (p .y) (getD l (p .start) none .start))
-      (λ u. ((λ o. started-y a l (p .start) (p .end) (p .y)), λ o. absurd (not-suc-le-zero {n = 0} (omega arith))))
-      (λ u. ((λ o. started-y a (splitAt l (p .start) (p .y)) (suc (p .start)) (suc (p .end)) (p .y)), λ o. absurd (not-suc-le-zero {n = 0} (omega arith)))))
-      (λ t. ((λ o. absurd (not-suc-le-zero {n = 0} (omega (arith, nltb→le (p .start) (length l) t)))), λ o. refl))
+  make-y l p =
+      make-ways (Y l p) a l p
+      (λ h. ((λ o. started-y a l (p .start) (p .end) (p .y)), λ o. absurd (not-suc-le-zero {n = 0} (omega arith))))
+      (λ h u. ((λ o. started-y a (splitAt l (p .start) (p .y)) (suc (p .start)) (suc (p .end)) (p .y)), λ o. absurd (not-suc-le-zero {n = 0} (omega arith))))
+      (λ h. ((λ o. absurd (not-suc-le-zero {n = 0} (omega arith))), λ o. refl))
 
   -- ---- what the old bands are beside the box
   module _ (l : List Segment) (c : Chain (inf true) l) (d : Each Band64 l) (F : ℕ) (y0 : Float) (p : Spot) (f : Found l a F y0 (count64 l c d) p) where

@@ -4,11 +4,10 @@ use mathlib.Core.Logic.{_⊎_, inl, inr}
 use Prim.Native.Nat.{ℕ, _+_, _-_, _*_, _^_, _≤_, _<_}
 use native.Mathlib.Nat.{le-of-mul-le-mul-right}
 use native.Mathlib.Omega.{arith}
-use mathlib.Core.Bool.{Bool, true, false, _&&_, _||_}
+use mathlib.Core.Bool.{Bool, _&&_, _||_}
 use lib.IntN.{pos}
 use lib.Dec.{T, leb→le}
 use lib.Ieee.{Float, binary32, binary64, add, sub, le, eq}
-use lib.Ieee.Fits.{and-l, and-r}
 use Rattle.f32_laws.specs.Numbers.{larger, zero+, tol}
 use Rattle.f32_laws.specs.Key.{Fin, mag}
 use Rattle.f32_laws.specs.Sixty.{in64, g64, mid, half, at64}
@@ -23,7 +22,8 @@ use Rattle.float.specs.declared.fit.Ask.{Ask}
 use Rattle.float.specs.Numbers.{inReach}
 use Rattle.float.specs.Fit.{passes, placedAt, fits}
 use Rattle.demands.specs.Runs.{passesExactly, fitsExactly}
-use Rattle.demands.proofs.Laws.{k, B, Val, Ins, ins-val, ins-fin, ins-zero, zero-k, larger-ins, sum-num, farthest-num}
+use Rattle.demands.proofs.Halves.{trail-half, lead-half}
+use Rattle.demands.proofs.Laws.{k, B, Val, Ins, ins-val, ins-fin, ins-zero, zero-k, larger-ins, sum-num, farthest-num, or-right}
 use Rattle.demands.proofs.Seek.{Asked}
 
 abbrev pub g : ℕ
@@ -90,10 +90,6 @@ q-sum p q v w t =
     (let m = p .n + q .n - mid in omega (arith, ap k (sum-at p q), at64-key m (omega (arith, p .high, q .high, two)), le→key (sum-num v w) farthest-num t, farthest-mag)) in
     record { n = p .n + q .n - mid; is = sum-at p q; low = omega (arith, p .low, q-up q (w .low)); high = h }
 
-or-right : (a b : Bool) → (T a → ⊥) → T (a || b) → T b
-or-right true b n h = absurd (n tt)
-or-right false b n h = h
-
 -- ---- the 0.001
 -- what is asked of a place, in 64ths
 pub record Ask64 (a : Ask) : Type 0 where
@@ -130,16 +126,14 @@ module _ (a : Ask) (q : Ask64 a) {l t : Float} (lq : Q l) (tq : Q t) (l' : Ins l
   fits-idle = ap₂ _&&_ (passes-idle (q-larger lq (q .cbLead)) (q .width) (q .page) tq (q .asked .page) t' t) (passes-idle (q-larger lq (q .cbLead)) (q .width) (q .page) (q .cbTrail) (q .asked .page) (q .asked .cbTrail) l)
 
   pub fit-trail : T (fits a l t) → B < k t → k (placedAt a l) + k (a .width) + k t ≤ k (a .page) + (B + B)
-  unfolding fits placedAt
+  unfolding placedAt
   fit-trail f h =
-      let x = add binary32 (larger l (a .«cb_lead»)) (a .width) in
-      passes-exact (q-larger lq (q .cbLead)) (q .width) (q .page) tq (q .asked .page) t' t' (larger-ins l' (q .asked .cbLead)) (q .asked .width) h (and-l (passes t x (a .page) t) (passes l x (a .page) (a .«cb_trail»)) f)
+      passes-exact (q-larger lq (q .cbLead)) (q .width) (q .page) tq (q .asked .page) t' t' (larger-ins l' (q .asked .cbLead)) (q .asked .width) h (trail-half a l t f)
 
   pub fit-lead : T (fits a l t) → B < k l → k (placedAt a l) + k (a .width) + k (a .«cb_trail») ≤ k (a .page) + (B + B)
-  unfolding fits placedAt
+  unfolding placedAt
   fit-lead f h =
-      let x = add binary32 (larger l (a .«cb_lead»)) (a .width) in
-      passes-exact (q-larger lq (q .cbLead)) (q .width) (q .page) (q .cbTrail) (q .asked .page) (q .asked .cbTrail) l' (larger-ins l' (q .asked .cbLead)) (q .asked .width) h (and-r (passes t x (a .page) t) (passes l x (a .page) (a .«cb_trail»)) f)
+      passes-exact (q-larger lq (q .cbLead)) (q .width) (q .page) (q .cbTrail) (q .asked .page) (q .asked .cbTrail) l' (larger-ins l' (q .asked .cbLead)) (q .asked .width) h (lead-half a l t f)
 
 -- ---- a difference that is not negative, as a count of 64ths in f64
 pub diff-count : {x y : Float} → Q x → Q y → k y ≤ k x → (d : ℕ) × (sub binary32 x y ≡ in64 binary64 (pos d)) × (d * g + k y ≡ k x) × (d ≤ 2 ^ 24)

@@ -9,11 +9,9 @@ use lib.Ieee.{Float, nan, inf, fin, binary32, fits as fits-in, add, lt, le, eq}
 use lib.Ieee.Fits.{and-l, and-r}
 use Rattle.f32_laws.specs.Numbers.{larger, zero+}
 use Rattle.f32_laws.specs.Key.{Num, mag}
-use Rattle.f32_laws.specs.Within.{u20}
 use Rattle.f32_laws.proofs.Tests.{both}
-use Rattle.f32_laws.proofs.Keys.{le→key}
+use Rattle.f32_laws.proofs.Keys.{le→key, key→le}
 use Rattle.f32_laws.proofs.Larger.{larger-key}
-use Rattle.f32_laws.proofs.Limits.{u20-twice}
 use Rattle.float.specs.declared.Bottom.{Bottom}
 use Rattle.float.specs.declared.Clear.{Clear}
 use Rattle.float.specs.declared.FloatDirection.{FloatDirection}
@@ -21,13 +19,13 @@ use Rattle.float.specs.declared.Refusal.{Refusal}
 use Rattle.float.specs.declared.fit.Ask.{Ask}
 use Rattle.float.specs.declared.refuse.Check.{Check}
 use Rattle.float.specs.Numbers.{most, least, plusZero, finite, within, Given, size, offset, value, allowed, allFinite, allAllowed}
-use Rattle.float.specs.Refuse.{sideOf, clearOf, checkOf}
+use Rattle.float.specs.Refuse.{numberOf, sideOf, clearOf, checkOf}
 use Rattle.float.specs.Bands.{onSide}
 use Rattle.float.specs.Page.{Page}
 use Rattle.float.specs.Clear.{lower, raiseTo, cleared}
 use Rattle.float.specs.Place.{Call, cleaned, numbers, lowest, askOf, counted}
-use Rattle.demands.specs.Runs.{Each, box, handed, F32}
-use Rattle.demands.proofs.Laws.{k, Val, Ins, zero-k, ins-zero, val-top, on-either, larger-top}
+use Rattle.demands.specs.Runs.{Each, box, handed, F32, AtOrBelow, LowEnough}
+use Rattle.demands.proofs.Laws.{k, far-twice, Val, Ins, zero-k, ins-zero, val-top, on-either, larger-top}
 use Rattle.demands.proofs.Seek.{Asked}
 
 -- ---- limits
@@ -37,8 +35,8 @@ num-of nan f t = absurd t
 num-of (inf s) f t = record { is = tt }
 num-of (fin s m e) f t = record { is = f }
 
-most-mag : mag binary32 1 (pos 16) ≤ u20
-unfolding mag u20
+pub most-mag : mag binary32 1 (pos 16) ≤ mag binary32 1 (pos 17)
+unfolding mag
 most-mag = lit≤ tt
 
 pub most-num : Num binary32 most
@@ -67,7 +65,7 @@ known-one (offset x) f t w =
     let n = num-of x f t in
     record {
       num = n;
-      low = omega (arith, most-mag, u20-twice, le→key least-num n (and-l (le least x) (le x most) w));
+      low = omega (arith, most-mag, far-twice, le→key least-num n (and-l (le least x) (le x most) w));
       high = omega (arith, most-mag, le→key n most-num (and-r (le least x) (le x most) w));
     }
 
@@ -76,15 +74,30 @@ unfolding allFinite allAllowed
 known [] f t w = tt
 known (g ∷ gs) f t w = (known-one g (f .0) (and-l (finite (value g)) (allFinite gs) t) (and-l (allowed g) (allAllowed gs) w), known gs (f .1) (and-r (finite (value g)) (allFinite gs) t) (and-r (allowed g) (allAllowed gs) w))
 
--- a check's two ways
-pub check-both {ℓ} : {A : Type ℓ} (P : A → Type 0) (b : Bool) (gs : List Given) {x : A} {f : Refusal → A} → (T (allFinite gs) → T (allAllowed gs) → P x) → ((n : Refusal) → P (f n)) → P (elim (checkOf b gs) [ Check.Passed ↦ x | Check.Refused n ↦ f n ])
+-- the sizes of a call are at most 65,536
+pub sizes : (c : Call) → T (allAllowed (numbers c)) → T (le (c .width) most) × ((r : FloatDirection) → T (le (onSide r (c .left) (c .right)) most))
+unfolding allAllowed within
+sizes c t =
+    let h = and-r (allowed (size (c .width))) (allAllowed (size (c .height) ∷ offset (c .minY) ∷ size (c .left) ∷ size (c .right) ∷ [])) t in
+    let m = and-r (allowed (size (c .height))) (allAllowed (offset (c .minY) ∷ size (c .left) ∷ size (c .right) ∷ [])) h in
+    let i = and-r (allowed (offset (c .minY))) (allAllowed (size (c .left) ∷ size (c .right) ∷ [])) m in
+    (
+      top (c .width) (and-l (allowed (size (c .width))) _ t),
+      λ r. on-either (λ (x : Float). T (le x most)) r (top (c .left) (and-l (allowed (size (c .left))) _ i)) (top (c .right) (and-l (allowed (size (c .right))) _ (and-r (allowed (size (c .left))) _ i))),
+    )
+  where
+    top : (x : Float) → T (allowed (size x)) → T (le x most)
+    top x t = and-r (le zero+ x) (le x most) t
+
+-- a check's two ways: it refuses with 1, 2 or 3
+pub check-both {ℓ} : {A : Type ℓ} (P : A → Type 0) (b : Bool) (gs : List Given) {x : A} {f : Refusal → A} → (T (allFinite gs) → T (allAllowed gs) → P x) → ((n : Refusal) → numberOf n ≤ 3 → P (f n)) → P (elim (checkOf b gs) [ Check.Passed ↦ x | Check.Refused n ↦ f n ])
 unfolding checkOf
 check-both P b gs {x} {f} p q = go b (allFinite gs) (allAllowed gs) p
   where
     go : (b t u : Bool) → (T t → T u → P x) → P (elim (cond b (cond t (cond u Check.Passed (Check.Refused Refusal.OutOfLimits)) (Check.Refused Refusal.NotFinite)) (Check.Refused Refusal.UnknownCode)) [ Check.Passed ↦ x | Check.Refused n ↦ f n ])
-    go false t u p = q Refusal.UnknownCode
-    go true false u p = q Refusal.NotFinite
-    go true true false p = q Refusal.OutOfLimits
+    go false t u p = q Refusal.UnknownCode (omega arith)
+    go true false u p = q Refusal.NotFinite (omega arith)
+    go true true false p = q Refusal.OutOfLimits (omega arith)
     go true true true p = p tt tt
 
 -- ---- minus zero
@@ -175,10 +188,30 @@ unfolding raiseTo
 raise-over x y Bottom.None v w h = absurd h
 raise-over x y (Bottom.At z) v w h = omega (arith, larger-key (v .num) (w .num))
 
--- rule 1 stays at or below the ceiling
-pub lowest-over : (p : Page) (c : Call) → Val (c .minY) → BottomIs Val (p .ceiling) → ((r : FloatDirection) → BottomIs Val (bottomOn r p)) → (x : Float) → AtMost x (p .ceiling) → k x ≤ k (lowest p c)
-unfolding lowest
-lowest-over p c m h g x o =
-    let y = raiseTo (c .minY) (p .ceiling) in
-    let z = cleared p (clearOf (c .clear)) in
-    omega (arith, raise-over x (c .minY) (p .ceiling) m h o, raise-up y z (raise-is Val larger-val (c .minY) (p .ceiling) m h) (cleared-is Val larger-val p g (clearOf (c .clear))))
+-- rule 1 goes no higher than min_y, the ceiling and the cleared bottoms
+module _ (p : Page) (c : Call) (m : Val (c .minY)) (h : BottomIs Val (p .ceiling)) (g : (r : FloatDirection) → BottomIs Val (bottomOn r p)) where
+  raised : Val (raiseTo (c .minY) (p .ceiling))
+  raised = raise-is Val larger-val (c .minY) (p .ceiling) m h
+
+  below : BottomIs Val (cleared p (clearOf (c .clear)))
+  below = cleared-is Val larger-val p g (clearOf (c .clear))
+
+  lowest-min : k (c .minY) ≤ k (lowest p c)
+  unfolding lowest
+  lowest-min = omega (arith, raise-up (c .minY) (p .ceiling) m h, raise-up _ (cleared p (clearOf (c .clear))) raised below)
+
+  pub lowest-over : (x : Float) → AtMost x (p .ceiling) → k x ≤ k (lowest p c)
+  unfolding lowest
+  lowest-over x o = omega (arith, raise-over x (c .minY) (p .ceiling) m h o, raise-up _ (cleared p (clearOf (c .clear))) raised below)
+
+  lowest-cleared : (x : Float) → AtMost x (cleared p (clearOf (c .clear))) → k x ≤ k (lowest p c)
+  unfolding lowest
+  lowest-cleared x o = raise-over x _ (cleared p (clearOf (c .clear))) raised below o
+
+  -- so a y that is no higher is low enough
+  pub low-enough : (y : Float) → Val y → k (lowest p c) ≤ k y → LowEnough p c y
+  low-enough y v o = (key→le (m .num) (v .num) (omega (arith, lowest-min)), on (p .ceiling) h (λ x t. omega (arith, lowest-over x t)), on (cleared p (clearOf (c .clear))) below (λ x t. omega (arith, lowest-cleared x t)))
+    where
+      on : (b : Bottom) → BottomIs Val b → ((x : Float) → AtMost x b → k x ≤ k y) → AtOrBelow b y
+      on Bottom.None w f = tt
+      on (Bottom.At x) w f = key→le (w .num) (v .num) (f x (omega arith))

@@ -1,12 +1,11 @@
 -- The numbers of a page by their keys; and a box that fits beside insets fits beside smaller ones, for sums and differences are monotone.
 use mathlib.Core.Path.{_≡_}
-use Prim.Native.Nat.{ℕ, _+_, _≤_}
+use Prim.Native.Nat.{ℕ, _+_, _≤_, _<_}
 use native.Mathlib.Omega.{arith}
 use mathlib.Core.Bool.{Bool, true, false, _||_}
 use lib.IntN.{pos}
 use lib.Dec.{T, lit≤}
 use lib.Ieee.{Float, inf, binary32, fits as fits-in, add, sub, le, eq}
-use lib.Ieee.Fits.{and-l, and-r, and-i}
 use Rattle.f32_laws.specs.Numbers.{larger, zero+, tol}
 use Rattle.f32_laws.specs.Key.{Num, Fin, key, bias, mag}
 use Rattle.f32_laws.specs.Within.{u20}
@@ -21,6 +20,7 @@ use Rattle.float.specs.declared.fit.Ask.{Ask}
 use Rattle.float.specs.Numbers.{farthest, inReach}
 use Rattle.float.specs.Bands.{onSide}
 use Rattle.float.specs.Fit.{passes, placedAt, fits}
+use Rattle.demands.proofs.Halves.{trail-half, lead-half, both-halves}
 
 abbrev pub k : Float → ℕ
 k x = key binary32 x
@@ -28,22 +28,33 @@ k x = key binary32 x
 abbrev pub B : ℕ
 B = bias binary32
 
--- a number at most 2 ^ 20 either way
+-- 131,072 in units: no bottom, no far edge and no y goes further
+abbrev pub far : ℕ
+far = mag binary32 1 (pos 17)
+
+far-u20 : far ≤ u20
+unfolding mag u20
+far-u20 = lit≤ tt
+
+pub far-twice : far + far < B
+far-twice = omega (arith, far-u20, u20-twice)
+
+-- a number at most 131,072 either way
 pub record Val (x : Float) : Type 0 where
   pub num : Num binary32 x
-  pub low : B ≤ k x + u20
-  pub high : k x ≤ B + u20
+  pub low : B ≤ k x + far
+  pub high : k x ≤ B + far
 
 -- one that is at least 0
 pub record Ins (x : Float) : Type 0 where
   pub num : Num binary32 x
   pub low : B ≤ k x
-  pub high : k x ≤ B + u20
+  pub high : k x ≤ B + far
 
 -- a band's start may be minus infinity
 pub record Top (x : Float) : Type 0 where
   pub num : Num binary32 x
-  pub high : k x ≤ B + u20
+  pub high : k x ≤ B + far
 
 pub ins-val : {x : Float} → Ins x → Val x
 ins-val p = record { num = p .num; low = omega arith; high = p .high }
@@ -54,8 +65,8 @@ val-top p = record { num = p .num; high = p .high }
 pub top-low : Top (inf true)
 top-low = record { num = record { is = tt }; high = omega arith }
 
-val-fin : {x : Float} → Val x → Fin binary32 x
-val-fin p = fin-of-key (p .num) (omega (arith, u20-twice, p .low)) (omega (arith, u20-twice, p .high))
+pub val-fin : {x : Float} → Val x → Fin binary32 x
+val-fin p = fin-of-key (p .num) (omega (arith, far-twice, p .low)) (omega (arith, far-twice, p .high))
 
 pub ins-fin : {x : Float} → Ins x → Fin binary32 x
 ins-fin p = val-fin (ins-val p)
@@ -88,10 +99,6 @@ sum-num p q = add-num (val-fin p) (ins-fin q)
 pub sum-grows : {x y : Float} → Val x → Ins y → k x ≤ k (add binary32 x y)
 sum-grows p q = le→key (p .num) (sum-num p q) (add-grows (val-fin p) (ins-fin q) (key→le (ins-zero .num) (q .num) (omega (arith, zero-k, q .low))))
 
-farthest-mag : mag binary32 1 (pos 17) ≤ u20
-unfolding mag u20
-farthest-mag = lit≤ tt
-
 pub farthest-num : Num binary32 farthest
 unfolding fits-in
 farthest-num = record { is = tt }
@@ -99,7 +106,7 @@ farthest-num = record { is = tt }
 -- a sum that refusal 6 lets pass
 pub sum-val : {x y : Float} → Val x → Ins y → T (inReach (add binary32 x y)) → Val (add binary32 x y)
 unfolding inReach
-sum-val p q h = record { num = sum-num p q; low = omega (arith, p .low, sum-grows p q); high = omega (arith, le→key (sum-num p q) farthest-num h, farthest-mag) }
+sum-val p q h = record { num = sum-num p q; low = omega (arith, p .low, sum-grows p q); high = le→key (sum-num p q) farthest-num h }
 
 pub sum-ins : {x y : Float} → Ins x → Ins y → T (inReach (add binary32 x y)) → Ins (add binary32 x y)
 sum-ins p q h = let v = sum-val (ins-val p) q h in record { num = v .num; low = omega (arith, p .low, sum-grows (ins-val p) q); high = v .high }
@@ -110,6 +117,10 @@ or-map true y true y' f g h = tt
 or-map true y false y' f g h = absurd (f tt)
 or-map false y true y' f g h = tt
 or-map false y false y' f g h = g h
+
+pub or-right : (a b : Bool) → (T a → ⊥) → T (a || b) → T b
+or-right true b n h = absurd (n tt)
+or-right false b n h = h
 
 -- one half of it: the inset and the bound may fall, and the far edge
 passes-down : {i i' x x' g t t' : Float} → Ins i → Ins i' → Num binary32 x → Num binary32 x' → Ins g → Ins t → Ins t' → k i ≤ k i' → T (le x x') → k t ≤ k t' → T (passes i' x' g t') → T (passes i x g t)
@@ -124,15 +135,11 @@ passes-down {i} {i'} {x} {x'} {g} {t} {t'} p p' n n' w q q' h o m =
 
 module _ (a : Ask) (w : Ins (a .width)) (g : Ins (a .page)) (c : Ins (a .«cb_lead»)) (d : Ins (a .«cb_trail»)) {l t l' t' : Float} (p : Ins l) (q : Ins t) (p' : Ins l') (q' : Ins t') (h : k l ≤ k l') (i : k t ≤ k t') where
   pub fits-down : T (fits a l' t') → T (fits a l t)
-  unfolding fits placedAt
+  unfolding placedAt
   fits-down f =
       let v = larger-ins p c in
       let v' = larger-ins p' c in
-      let x = add binary32 (larger l (a .«cb_lead»)) (a .width) in
-      let x' = add binary32 (larger l' (a .«cb_lead»)) (a .width) in
       let n = sum-num (ins-val v) w in
       let n' = sum-num (ins-val v') w in
       let o = add-mono-l (ins-fin v) (ins-fin v') (ins-fin w) (key→le (v .num) (v' .num) (omega (arith, larger-key (p .num) (c .num), larger-key (p' .num) (c .num)))) in
-      let A = passes t' x' (a .page) t' in
-      let D = passes l' x' (a .page) (a .«cb_trail») in
-      and-i (passes t x (a .page) t) (passes l x (a .page) (a .«cb_trail»)) (passes-down q q' n n' g q q' i o i (and-l A D f)) (passes-down p p' n n' g d d h o (omega arith) (and-r A D f))
+      both-halves a l t (passes-down q q' n n' g q q' i o i (trail-half a l' t' f)) (passes-down p p' n n' g d d h o (omega arith) (lead-half a l' t' f))

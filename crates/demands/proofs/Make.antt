@@ -6,14 +6,13 @@ use native.Mathlib.Decide.{decLe}
 use native.Mathlib.Omega.{arith}
 use mathlib.Core.Bool.{Bool, true, false, not, _&&_, cond}
 use mathlib.Core.List.{List, [], _∷_, _++_}
-use lib.Dec.{T, ltb, ltb→lt, nltb→le, T-not}
-use lib.Ieee.{Float, inf, binary32, add, lt, le, eq}
-use lib.Ieee.Fits.{and-l, and-r}
+use lib.Dec.{T, ltb, ltb→lt}
+use lib.Ieee.{Float, inf, binary32, add, lt, le}
 use lib.ListN.{length, getD, length-append, List·getD-append}
 use lib.Seq.{getD-append-seam}
 use Rattle.f32_laws.specs.Numbers.{larger, zero+}
 use Rattle.f32_laws.proofs.Tests.{both}
-use Rattle.f32_laws.proofs.Keys.{lt→key, nlt→key, le→key, key→eq}
+use Rattle.f32_laws.proofs.Keys.{lt→key, nlt→key, le→key}
 use Rattle.f32_laws.proofs.Larger.{larger-key}
 use Rattle.float.specs.declared.FloatDirection.{FloatDirection}
 use Rattle.float.specs.declared.Segment.{Segment}
@@ -21,11 +20,13 @@ use Rattle.float.specs.declared.fit.Ask.{Ask}
 use Rattle.float.specs.declared.search.Spot.{Spot}
 use Rattle.float.specs.Numbers.{inReach}
 use Rattle.float.specs.Bands.{onSide, other, lead, none, bare, splitAt, markAll}
-use Rattle.float.specs.Place.{Made, seed, endOf, gapped, belowAll, walked, inside, pastLast, ended, startedAt, make}
+use Rattle.float.specs.Place.{Made, seed, endOf, gapped, belowAll, walked, startedAt, make}
+use Rattle.demands.specs.Runs.{StrictlyIn}
 use Rattle.demands.proofs.Laws.{k, Val, Ins, Top, on-either, ins-zero, top-low, val-top, top-larger, sum-val, sum-grows}
 use Rattle.demands.proofs.Chain.{Sound, Chain, chain-at, chain-next, chain-last, last-val, chain-append, last-append, chain-split, length-split, split-lead, split-start, split-upper, split-lower, split-end, last-is, old, old-le, old-gt, mark-in, mark-after, mark-trail, length-mark}
 use Rattle.demands.proofs.Heights.{Grows, grows-refl, grows-trans, grows-append, grows-split}
-use Rattle.demands.proofs.Seek.{Falls, Asked, Holds, Count, Fit, Found}
+use Rattle.demands.proofs.Splits.{started-ways, make-ways}
+use Rattle.demands.proofs.Seek.{Falls, Asked, Count, Fit, Found}
 
 -- ---- what marking does to the falling sides
 module _ (r : FloatDirection) (v : Float) (l : List Segment) (F s e : ℕ) (f : F ≤ s) where
@@ -113,10 +114,9 @@ seed-has P a s e p q r = on-either P r (on-either P (a .side) p q) (on-either P 
 
 -- ---- a made place: the bands m for the bands l, with the inset i to be recorded from band F on; on 64ths D says that the counted height is the way down
 module _ (l : List Segment) (a : Ask) (F : ℕ) (i : Float) (D : Type 0) where
-  pub record MadeOk (extra : ℕ) (m : Made) : Type 0 where
+  pub record MadeOk (m : Made) : Type 0 where
     pub chain : Chain (inf true) (m .bands)
     pub grows : Grows l (m .bands)
-    pub more : length (m .bands) ≤ length l + extra
     pub first : F ≤ m .start
     pub order : m .start ≤ m .end
     pub last : m .end < length (m .bands)
@@ -137,11 +137,10 @@ module _ (l : List Segment) (a : Ask) (F : ℕ) (i : Float) (D : Type 0) where
     seed-covers m s e = omega (arith, ap (λ (z : Segment). k (lead (a .side) z)) (getD-append-seam m (seed a s e) [] none), ap k (seed-lead (a .side) s e (a .«cb_lead») (a .«cb_trail»)))
 
     -- rule 6
-    below-ok : (c : Chain (inf true) l) (y : Float) → F ≤ length l → Val y → T (inReach (add binary32 (larger (endOf l) y) (a .height))) → MadeOk 2 (belowAll a l (endOf l) y)
+    below-ok : (c : Chain (inf true) l) (y : Float) → F ≤ length l → Val y → T (inReach (add binary32 (larger (endOf l) y) (a .height))) → MadeOk (belowAll a l (endOf l) y)
     below-ok c y f v b = record {
       chain = chain-append (inf true) G (seed a Y E) (g .0) (sym (g .1)) new;
       grows = grows-trans l G (G ++ seed a Y E ∷ []) (g .2) (grows-append (inf true) G (seed a Y E) (g .0) new);
-      more = omega (arith, len, g .4);
       first = omega (arith, g .3);
       order = omega arith;
       last = omega (arith, len);
@@ -192,16 +191,19 @@ module _ (l : List Segment) (a : Ask) (F : ℕ) (i : Float) (D : Type 0) where
       bot : Val (add binary32 y (a .height))
       bot = sum-val v (q .height) b
 
-      ended-ok : (t : ℕ) → s ≤ t → t ≤ e → (t ≡ e) ⊎ ((suc t ≤ e) × T (le (add binary32 y (a .height)) (getD l (suc t) none .start))) → e < length l → MadeOk 1 (ended l s t y (add binary32 y (a .height)))
-      ended-ok t p r wk x = both (MadeOk 1) (inside (getD l t none) bt)
-          (λ z. let g = chain-at (inf true) l t c (omega arith) in
-          let lo = lt→key (g .start .num) (bot .num) (and-l (lt (getD l t none .start) bt) (lt bt (getD l t none .end)) z) in
-          let hi = lt→key (bot .num) (g .end .num) (and-r (lt (getD l t none .start) bt) (lt bt (getD l t none .end)) z) in
+      abbrev bt : Float
+      bt = add binary32 y (a .height)
+
+      -- the end band t is split
+      cut-ok : (t : ℕ) → s ≤ t → t ≤ e → e < length l → StrictlyIn (getD l t none) bt → MadeOk (record { bands = splitAt l t bt; start = s; end = t; y = y })
+      cut-ok t p r x z =
+          let g = chain-at (inf true) l t c (omega arith) in
+          let lo = lt→key (g .start .num) (bot .num) (z .0) in
+          let hi = lt→key (bot .num) (g .end .num) (z .1) in
           let len = length-split l t bt (omega arith) in
           record {
             chain = chain-split (inf true) l t bt c bot (omega arith) (omega arith);
             grows = grows-split (inf true) l t bt c bot (omega arith);
-            more = omega arith;
             first = f;
             order = p;
             last = omega arith;
@@ -210,97 +212,90 @@ module _ (l : List Segment) (a : Ask) (F : ℕ) (i : Float) (D : Type 0) where
             covers = λ j m n x'. omega (arith, ap k (split-lead (a .side) l t bt j ∙ ap (λ (z : ℕ). lead (a .side) (getD l z none)) (old-le t j n)), w j m (omega arith) (omega arith));
             falls = λ v m. falls-mark (a .side) v (splitAt l t bt) F s t f (either-split (a .side) F l t bt (omega arith) (omega arith) d) (omega arith)
                 (omega (arith, ap k (split-lead (a .side) l t bt s ∙ ap (λ (z : ℕ). lead (a .side) (getD l z none)) (old-le t s p)), w s (omega arith) (omega arith) (omega arith)));
-          })
-          (λ z. record {
-            chain = c;
-            grows = grows-refl l;
-            more = omega arith;
-            first = f;
-            order = p;
-            last = omega arith;
-            top = tp;
-            bottom = λ d. reach d wk x;
-            covers = λ j m n x. w j m (omega arith) x;
-            falls = λ v m. falls-mark (a .side) v l F s t f d h (omega (arith, w s (omega arith) (omega arith) h));
-          })
+          }
+
+      -- or left
+      whole-ok : (t : ℕ) → s ≤ t → t ≤ e → (t ≡ e) ⊎ ((suc t ≤ e) × T (le bt (getD l (suc t) none .start))) → e < length l → MadeOk (record { bands = l; start = s; end = t; y = y })
+      whole-ok t p r wk x = record {
+        chain = c;
+        grows = grows-refl l;
+        first = f;
+        order = p;
+        last = omega arith;
+        top = tp;
+        bottom = λ d. reach d wk;
+        covers = λ j m n x. w j m (omega arith) x;
+        falls = λ v m. falls-mark (a .side) v l F s t f d h (omega (arith, w s (omega arith) (omega arith) h));
+      }
         where
-          bt : Float
-          bt = add binary32 y (a .height)
+          reach : D → (t ≡ e) ⊎ ((suc t ≤ e) × T (le bt (getD l (suc t) none .start))) → k bt ≤ k (getD l t none .end)
+          reach d (inl m) = subst (λ (z : ℕ). k bt ≤ k (getD l z none .end)) (sym m) (dp d x)
+          reach d (inr m) = omega (arith, le→key (bot .num) (chain-at (inf true) l (suc t) c (omega (arith, m .0)) .start .num) (m .1), ap k (chain-next (inf true) l t c (omega (arith, m .0))))
 
-          reach : D → (t ≡ e) ⊎ ((suc t ≤ e) × T (le bt (getD l (suc t) none .start))) → e < length l → k bt ≤ k (getD l t none .end)
-          reach d (inl m) x = subst (λ (z : ℕ). k bt ≤ k (getD l z none .end)) (sym m) (dp d x)
-          reach d (inr m) x = omega (arith, le→key (bot .num) (chain-at (inf true) l (suc t) c (omega (arith, m .0)) .start .num) (m .1), ap k (chain-next (inf true) l t c (omega (arith, m .0))))
+      -- running past the last: a band is added, or the bottom is not beyond it
+      module _ (x : e ≡ length l) where
+        abbrev z : Float
+        z = endOf l
 
-      past-ok : e ≡ length l → MadeOk 1 (pastLast a l s y (add binary32 y (a .height)))
-      past-ok x = both (MadeOk 1) (lt z bt)
-          (λ t. let g = seed-sound (val-top zv) bot (omega (arith, lt→key (zv .num) (bot .num) t)) in
-          let len = length-append l (seed a z bt ∷ []) in
-          record {
-            chain = chain-append (inf true) l _ c refl g;
-            grows = grows-append (inf true) l _ c g;
-            more = omega arith;
-            first = f;
-            order = omega arith;
-            last = omega arith;
-            top = omega (arith, ap (λ (z : Segment). k (z .start)) (List·getD-append l (seed a z bt ∷ []) none s h));
-            bottom = λ d. omega (arith, ap (λ (z : Segment). k (z .end)) (getD-append-seam l (seed a z bt) [] none));
-            covers = λ j m n p. upTo j m n (decLe (length l) j);
-            falls = λ v m. inl (flat (a .side) v (l ++ seed a z bt ∷ []) F s (length l) f (omega arith));
-          })
-          (λ t. record {
-            chain = c;
-            grows = grows-refl l;
-            more = omega arith;
-            first = f;
-            order = omega arith;
-            last = omega arith;
-            top = tp;
-            bottom = λ d. omega (arith, nlt→key (zv .num) (bot .num) t, ap k (last-is (inf true) l (length l - 1) (omega arith)));
-            covers = λ j m n p. w j m (omega arith) p;
-            falls = λ v m. inl (flat (a .side) v l F s (length l - 1) f (omega arith));
-          })
-        where
-          z : Float
-          z = endOf l
+        zv : Val z
+        zv = last-val (inf true) l c (omega arith)
 
-          bt : Float
-          bt = add binary32 y (a .height)
+        longer-ok : T (lt z bt) → MadeOk (record { bands = l ++ seed a z bt ∷ []; start = s; end = length l; y = y })
+        longer-ok t =
+            let g = seed-sound (val-top zv) bot (omega (arith, lt→key (zv .num) (bot .num) t)) in
+            let len = length-append l (seed a z bt ∷ []) in
+            record {
+              chain = chain-append (inf true) l _ c refl g;
+              grows = grows-append (inf true) l _ c g;
+              first = f;
+              order = omega arith;
+              last = omega arith;
+              top = omega (arith, ap (λ (z : Segment). k (z .start)) (List·getD-append l (seed a z bt ∷ []) none s h));
+              bottom = λ d. omega (arith, ap (λ (z : Segment). k (z .end)) (getD-append-seam l (seed a z bt) [] none));
+              covers = λ j m n p. upTo j m n (decLe (length l) j);
+              falls = λ v m. inl (flat (a .side) v (l ++ seed a z bt ∷ []) F s (length l) f (omega arith));
+            }
+          where
+            upTo : (j : ℕ) → s ≤ j → j ≤ length l → Dec (length l ≤ j) → k (lead (a .side) (getD (l ++ seed a z bt ∷ []) j none)) ≤ k i
+            upTo j m n (yes p) = subst (λ (t : ℕ). k (lead (a .side) (getD (l ++ seed a z bt ∷ []) t none)) ≤ k i) {x = length l} {y = j} (omega arith) (seed-covers l z bt)
+            upTo j m n (no p) = omega (arith, ap (λ (z : Segment). k (lead (a .side) z)) (List·getD-append l (seed a z bt ∷ []) none j (omega arith)), w j m (omega arith) (omega arith))
 
-          zv : Val z
-          zv = last-val (inf true) l c (omega arith)
+        short-ok : T (not (lt z bt)) → MadeOk (record { bands = l; start = s; end = length l - 1; y = y })
+        short-ok t = record {
+          chain = c;
+          grows = grows-refl l;
+          first = f;
+          order = omega arith;
+          last = omega arith;
+          top = tp;
+          bottom = λ d. omega (arith, nlt→key (zv .num) (bot .num) t, ap k (last-is (inf true) l (length l - 1) (omega arith)));
+          covers = λ j m n p. w j m (omega arith) p;
+          falls = λ v m. inl (flat (a .side) v l F s (length l - 1) f (omega arith));
+        }
 
-          upTo : (j : ℕ) → s ≤ j → j ≤ length l → Dec (length l ≤ j) → k (lead (a .side) (getD (l ++ seed a z bt ∷ []) j none)) ≤ k i
-          upTo j m n (yes p) = subst (λ (t : ℕ). k (lead (a .side) (getD (l ++ seed a z bt ∷ []) t none)) ≤ k i) {x = length l} {y = j} (omega arith) (seed-covers l z bt)
-          upTo j m n (no p) = omega (arith, ap (λ (z : Segment). k (lead (a .side) z)) (List·getD-append l (seed a z bt ∷ []) none j (omega arith)), w j m (omega arith) (omega arith))
-
-      started-ok : MadeOk 1 (startedAt a l s e y)
+      started-ok : MadeOk (startedAt a l s e y)
       started-ok =
-          both (MadeOk 1) (ltb e (length l))
-          (λ t. let x = walked-ok l s (add binary32 y (a .height)) e o in ended-ok (walked l s (add binary32 y (a .height)) e) (x .0) (x .1) (x .2) (ltb→lt e (length l) t))
-          (λ t. past-ok (omega (arith, nltb→le e (length l) t)))
+          let t = walked l s bt e in
+          let x = walked-ok l s bt e o in
+          started-ways MadeOk a l s e y (cut-ok t (x .0) (x .1)) (whole-ok t (x .0) (x .1) (x .2)) (λ j. longer-ok (omega arith)) (λ j. short-ok (omega arith))
 
 pub started-y : (a : Ask) (m : List Segment) (s e : ℕ) (y : Float) → startedAt a m s e y .y ≡ y
-started-y a m s e y =
-    let b = add binary32 y (a .height) in
-    both (λ (r : Made). r .y ≡ y) (ltb e (length m))
-    (λ t. both (λ (r : Made). r .y ≡ y) (inside (getD m (walked m s b e) none) b) (λ u. refl) (λ u. refl))
-    (λ t. both (λ (r : Made). r .y ≡ y) (lt (endOf m) b) (λ u. refl) (λ u. refl))
+started-y a m s e y = started-ways (λ r. r .y ≡ y) a m s e y (λ o u. refl) (λ o. refl) (λ o u. refl) (λ o u. refl)
 
 -- ---- rules 6 and 7 together: from what the search found to the made place
-module _ (l : List Segment) (a : Ask) (F : ℕ) (y0 : Float) (p : Spot) (c : Chain (inf true) l) (q : Asked a) (d : Falls (a .side) F l ⊎ Falls (other (a .side)) F l) (z : F ≤ length l) (H : Count l) (g : Found l a F y0 H p) where
+module _ (l : List Segment) (a : Ask) (F : ℕ) (y0 : Float) (p : Spot) (c : Chain (inf true) l) (q : Asked a) (d : Falls (a .side) F l ⊎ Falls (other (a .side)) F l) (z : F ≤ length l) (H : Count l) (g : Found l a F y0 H p) (r : k (a .«cb_lead») ≤ k (p .inset)) where
   -- on 64ths the counted height is enough: the box's bottom is above the end band's end
   abbrev Deep : Type 0
   Deep = p .end < length l → k (add binary32 (p .y) (a .height)) ≤ k (getD l (p .end) none .end)
 
   abbrev Done : Made → Type 0
-  Done m = (Val (m .y) × (k (p .y) ≤ k (m .y))) × (T (inReach (add binary32 (m .y) (a .height))) → MadeOk l a F (p .inset) Deep 2 m)
+  Done m = (Val (m .y) × (k (p .y) ≤ k (m .y))) × (T (inReach (add binary32 (m .y) (a .height))) → MadeOk l a F (p .inset) Deep m)
 
-  -- one more band than a list that has at most one more than l, and grows from it
-  widen : (m : List Segment) (r : Made) (F' : ℕ) → F ≤ F' → Grows l m → length m ≤ length l + 1 → MadeOk m a F' (p .inset) Deep 1 r → MadeOk l a F (p .inset) Deep 2 r
-  widen m r F' f h n o = record {
+  -- from a list that grows from l
+  widen : (m : List Segment) (r : Made) (F' : ℕ) → F ≤ F' → Grows l m → MadeOk m a F' (p .inset) Deep r → MadeOk l a F (p .inset) Deep r
+  widen m r F' f h o = record {
     chain = o .chain;
     grows = grows-trans l m (r .bands) h (o .grows);
-    more = omega (arith, o .more);
     first = omega (arith, o .first);
     order = o .order;
     last = o .last;
@@ -312,17 +307,17 @@ module _ (l : List Segment) (a : Ask) (F : ℕ) (y0 : Float) (p : Spot) (c : Cha
 
   module _ (h : p .start < length l) (f : Fit l a F y0 H p) where
     unsplit : Done (startedAt a l (p .start) (p .end) (p .y))
-    unsplit = subst (λ (t : Float). (Val t × (k (p .y) ≤ k t)) × (T (inReach (add binary32 t (a .height))) → MadeOk l a F (p .inset) Deep 2 (startedAt a l (p .start) (p .end) (p .y)))) (sym (started-y a l (p .start) (p .end) (p .y))) (
+    unsplit = subst (λ (t : Float). (Val t × (k (p .y) ≤ k t)) × (T (inReach (add binary32 t (a .height))) → MadeOk l a F (p .inset) Deep (startedAt a l (p .start) (p .end) (p .y)))) (sym (started-y a l (p .start) (p .end) (p .y))) (
       (g .y, omega arith),
-      λ b. widen l (startedAt a l (p .start) (p .end) (p .y)) F (omega arith) (grows-refl l) (omega arith)
-          (started-ok l a F (p .inset) Deep q (g .cb) c d (p .start) (p .end) (p .y) (g .first) h (g .order) (g .last) (g .y) (f .above) (λ x t. x t) (λ j u w t. omega (arith, f .leads j u w t, f .placed)) b),
+      λ b. widen l (startedAt a l (p .start) (p .end) (p .y)) F (omega arith) (grows-refl l)
+          (started-ok l a F (p .inset) Deep q r c d (p .start) (p .end) (p .y) (g .first) h (g .order) (g .last) (g .y) (f .above) (λ x t. x t) (λ j u w t. omega (arith, f .leads j u w t, f .placed)) b),
     )
 
-    split : k (p .y) < k (getD l (p .start) none .end) → Done (startedAt a (splitAt l (p .start) (p .y)) (suc (p .start)) (suc (p .end)) (p .y))
-    split x = subst (λ (t : Float). (Val t × (k (p .y) ≤ k t)) × (T (inReach (add binary32 t (a .height))) → MadeOk l a F (p .inset) Deep 2 (startedAt a m (suc (p .start)) (suc (p .end)) (p .y)))) (sym (started-y a m (suc (p .start)) (suc (p .end)) (p .y))) (
+    split : Done (startedAt a (splitAt l (p .start) (p .y)) (suc (p .start)) (suc (p .end)) (p .y))
+    split = subst (λ (t : Float). (Val t × (k (p .y) ≤ k t)) × (T (inReach (add binary32 t (a .height))) → MadeOk l a F (p .inset) Deep (startedAt a m (suc (p .start)) (suc (p .end)) (p .y)))) (sym (started-y a m (suc (p .start)) (suc (p .end)) (p .y))) (
       (g .y, omega arith),
-      λ b. widen m (startedAt a m (suc (p .start)) (suc (p .end)) (p .y)) F (omega arith) (grows-split (inf true) l (p .start) (p .y) c (g .y) (omega arith)) (omega (arith, n))
-          (started-ok m a F (p .inset) Deep q (g .cb) (chain-split (inf true) l (p .start) (p .y) c (g .y) (f .above) (omega arith)) (either-split (a .side) F l (p .start) (p .y) (g .first) h d) (suc (p .start)) (suc (p .end)) (p .y) (omega (arith, g .first)) (omega (arith, n)) (omega (arith, g .order)) (omega (arith, n, g .last)) (g .y) (omega (arith, ap k (split-lower l (p .start) (p .y) h))) (λ x t. omega (arith, ap k (split-end l (p .start) (p .y) (p .end) (g .order)), x (omega (arith, n))))
+      λ b. widen m (startedAt a m (suc (p .start)) (suc (p .end)) (p .y)) F (omega arith) (grows-split (inf true) l (p .start) (p .y) c (g .y) (f .upTo))
+          (started-ok m a F (p .inset) Deep q r (chain-split (inf true) l (p .start) (p .y) c (g .y) (f .above) (f .upTo)) (either-split (a .side) F l (p .start) (p .y) (g .first) h d) (suc (p .start)) (suc (p .end)) (p .y) (omega (arith, g .first)) (omega (arith, n)) (omega (arith, g .order)) (omega (arith, n, g .last)) (g .y) (omega (arith, ap k (split-lower l (p .start) (p .y) h))) (λ x t. omega (arith, ap k (split-end l (p .start) (p .y) (p .end) (g .order)), x (omega (arith, n))))
           (λ j u w t. let o = old-gt (p .start) j (omega arith) in omega (arith, ap k (split-lead (a .side) l (p .start) (p .y) j), f .placed, f .leads (old (p .start) j) (omega arith) (omega arith) (omega (arith, n)))) b),
     )
       where
@@ -333,17 +328,6 @@ module _ (l : List Segment) (a : Ask) (F : ℕ) (y0 : Float) (p : Spot) (c : Cha
         n = length-split l (p .start) (p .y) h
 
   pub make-ok : Done (make a l p)
-  unfolding make
   make-ok =
-      both Done (ltb (p .start) (length l))
-      (λ t. let h = ltb→lt (p .start) (length l) t in
-      let f = g .fit h in
-      both Done (eq (p .y) (getD l (p .start) none .start))
-      (λ u. unsplit h f)
-      (λ u. split h f (go (f .holds) u h)))
-      (λ t. let v = top-larger (chain-last (inf true) l top-low c) (g .y) in
-      ((v, omega (arith, larger-key (chain-last (inf true) l top-low c .num) (g .y .num))), λ b. below-ok l a F (p .inset) Deep q (g .cb) c (p .y) z (g .y) b))
-    where
-      go : Holds (getD l (p .start) none) (p .y) → T (not (eq (p .y) (getD l (p .start) none .start))) → p .start < length l → k (p .y) < k (getD l (p .start) none .end)
-      go (inl e) u h = absurd (T-not (eq (p .y) (getD l (p .start) none .start)) u (key→eq (g .y .num) (chain-at (inf true) l (p .start) c h .start .num) e))
-      go (inr e) u h = e
+      make-ways Done a l p (λ h. unsplit h (g .fit h)) (λ h u. split h (g .fit h))
+      (λ h. let t = chain-last (inf true) l top-low c in ((top-larger t (g .y), omega (arith, larger-key (t .num) (g .y .num))), λ b. below-ok l a F (p .inset) Deep q r c (p .y) z (g .y) b))

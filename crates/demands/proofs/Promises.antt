@@ -4,30 +4,40 @@ use Prim.Native.Nat.{ℕ, _+_, _≤_, _<_}
 use mathlib.Core.Bool.{true, not}
 use mathlib.Core.List.{List, map}
 use lib.Dec.{T}
-use lib.Ieee.{Float, inf, binary32, add, sub, lt, le}
+use lib.Ieee.{Float, inf, binary32, add, sub, lt, le, eq}
 use lib.ListN.{length, getD}
+use Rattle.f32_laws.specs.Numbers.{zero+}
+use Rattle.float.specs.declared.ContentAnswer.{ContentAnswer}
+use Rattle.float.specs.declared.ContentSlot.{ContentSlot}
 use Rattle.float.specs.declared.Done.{Done}
 use Rattle.float.specs.declared.FloatContext.{FloatContext}
 use Rattle.float.specs.declared.FloatDirection.{FloatDirection}
 use Rattle.float.specs.declared.PlaceAnswer.{PlaceAnswer}
 use Rattle.float.specs.declared.Refusal.{Refusal}
+use Rattle.float.specs.declared.Segment.{Segment}
+use Rattle.float.specs.declared.fit.Ask.{Ask}
 use Rattle.float.specs.declared.refuse.Check.{Check}
+use Rattle.float.specs.Numbers.{plusZero, inReach}
 use Rattle.float.specs.Refuse.{sideOf}
 use Rattle.float.specs.Bands.{sameSide, other, lead, none}
 use Rattle.float.specs.Page.{Page, pageOf, stored}
 use Rattle.float.specs.Fit.{fits}
-use Rattle.float.specs.Place.{Call, cleaned, numbers, inputCheck, lowest, firstOf, askOf, spotOf, make, place, placedPage, placeOf, setWidth, widthOf, ifDone}
-use Rattle.demands.specs.Runs.{Each, Pairs, Act, box, boxIn, next, run, after, pageIn, bandsIn, Stays, handed, Handed, F32, Whole64, insetAt, NoSmaller, EdgeToEdge, Parted, sideIn, containingLead, containingTrail, sized, shareHeight, overlap, fitsExactly, Joins, Page64}
-use Rattle.demands.proofs.Seek.{no-count}
+use Rattle.float.specs.Place.{Call, cleaned, numbers, inputCheck, askOf, spotOf, place, placedPage, placeOf, setWidth, widthOf, ifDone}
+use Rattle.float.specs.Slot.{content}
+use Rattle.demands.specs.Runs.{Each, Pairs, Act, box, boxIn, next, run, after, pageIn, bandsIn, Stays, handed, Handed, F32, Whole64, insetAt, NoSmaller, EdgeToEdge, StartSplit, EndSplit, sideIn, containingLead, containingTrail, xFrom, bottom, rightEdge, farInset, LowEnough, ExactSum, contentAt, Between, sized, shareHeight, overlap, fitsExactly, Joins, Page64}
+use Rattle.demands.proofs.Steps.{StepsTo, place-few}
+use Rattle.demands.proofs.Added.{place-more}
+use Rattle.demands.proofs.Splits.{start-split, end-split}
 use Rattle.demands.proofs.Input.{cleaned-fits}
-use Rattle.demands.proofs.Whole.{StepsTo, spot-ok, place-ok}
+use Rattle.demands.proofs.Whole.{Lies, spot-in, place-ok}
+use Rattle.demands.proofs.Reach.{inset-in-reach, flat-not-6}
 use Rattle.demands.proofs.Structs.{page-placed}
-use Rattle.demands.proofs.Parts.{make-parts}
 use Rattle.demands.proofs.Exact.{fits-idle}
 use Rattle.demands.proofs.Whole64.{known64, ask64}
+use Rattle.demands.proofs.Content.{Answers, content-told}
 use Rattle.demands.proofs.Reached.{reached, grown, reached64}
-use Rattle.demands.proofs.Edges.{seven, apart}
-use Rattle.demands.proofs.Said.{edges, held-inset, no-smaller, passed, page64, joins-ins, joins64, clear-pairs}
+use Rattle.demands.proofs.Edges.{exact-edges, seven, apart}
+use Rattle.demands.proofs.Said.{edges, held-inset, no-smaller, passed, page64, joins-ins, joins64, each-boxed, clear-pairs}
 
 -- ---- any numbers: `os` is what was called so far
 
@@ -53,20 +63,23 @@ no-inset-smaller os more f g s =
 
 -- a further box adds at most two bands
 pub two-bands-more : (os : List Act) (c : Call) → Handed F32 os → Each F32 (handed (box c)) → length (bandsIn (next (after os) (box c))) ≤ length (bandsIn (after os)) + 2
-two-bands-more os c f g = subst (λ (q : Page). length (q .bands) ≤ length (bandsIn (after os)) + 2) (sym (page-placed (after os .struct) c)) (place-ok (pageIn (after os)) (after os .accepted) c (reached os f) g .more)
+two-bands-more os c f g = subst (λ (q : Page). length (q .bands) ≤ length (bandsIn (after os)) + 2) (sym (page-placed (after os .struct) c)) (place-more (pageIn (after os)) c)
 
 -- on n bands it takes at most 2n steps
 pub steps-at-most : (os : List Act) (c : Call) → Handed F32 os → Each F32 (handed (box c)) → (x y : Float) (k : ℕ) → placeOf (after os .struct) c .answer ≡ PlaceAnswer.At x y k → k ≤ length (bandsIn (after os)) + length (bandsIn (after os))
 unfolding placeOf
-steps-at-most os c f g x y k e = subst (StepsTo (length (bandsIn (after os)))) e (place-ok (pageIn (after os)) (after os .accepted) c (reached os f) g .steps)
+steps-at-most os c f g x y k e = subst (StepsTo (length (bandsIn (after os)))) e (place-few (pageIn (after os)) c)
 
--- every split on the way to the bands that it then marks falls strictly inside its band
-pub splits-inside : (os : List Act) (c : Call) → Handed F32 os → Each F32 (handed (box c)) → inputCheck (cleaned c) ≡ Check.Passed
-    → Parted (bandsIn (after os)) (make (askOf (pageIn (after os)) (cleaned c)) (bandsIn (after os)) (spotOf (pageIn (after os)) (cleaned c)) .bands)
-splits-inside os c f g e =
+-- the start band is left whole or split strictly inside; then so is the end band, of the bands as they stand
+pub splits-inside : (os : List Act) (c : Call) → Handed F32 os → Each F32 (handed (box c)) → inputCheck (cleaned c) ≡ Check.Passed → spotOf (pageIn (after os)) (cleaned c) .start < length (bandsIn (after os))
+    → StartSplit (askOf (pageIn (after os)) (cleaned c)) (bandsIn (after os)) (spotOf (pageIn (after os)) (cleaned c))
+splits-inside os c f g e h =
     let p = pageIn (after os) in
     let v = reached os f in
-    make-parts (p .bands) (askOf p (cleaned c)) (firstOf p) (lowest p (cleaned c)) (spotOf p (cleaned c)) (no-count (p .bands)) (v .chain) (spot-ok p (after os .accepted) (cleaned c) v (passed c g e .0) (no-count (p .bands)) tt tt)
+    start-split (p .bands) (askOf p (cleaned c)) (v .chain) (spotOf p (cleaned c)) (spot-in p (after os .accepted) (cleaned c) v (passed c g e .0)) h
+
+pub end-splits-inside : (a : Ask) (l : List Segment) (s e : ℕ) (y : Float) → e < length l → EndSplit a l s e y
+end-splits-inside = end-split
 
 -- a refused call hands back the very struct, whichever it was given
 pub refused-box : (p : FloatContext) (c : Call) (n : Refusal) → placeOf p c .answer ≡ PlaceAnswer.Refused n → placeOf p c .page ≡ p
@@ -85,6 +98,28 @@ rule-5 os f = reached os f .rises
 pub rule-1 : (os : List Act) → Handed F32 os → Each (λ a. T (le (containingLead a) (a .inset))) (after os .accepted)
 rule-1 os f = reached os f .leads
 
+-- the answered x by side, from the placed inset
+pub x-by-side : (os : List Act) → Handed F32 os → Each (λ a. a .x ≡ xFrom (pageIn (after os) .width) a) (after os .accepted)
+x-by-side os f = reached os f .answers
+
+-- the answered y is at least min_y, the ceiling and the cleared bottoms of the page before
+pub y-low-enough : (os : List Act) (c : Call) → Handed F32 os → Each F32 (handed (box c)) → (x y : Float) (k : ℕ) → placeOf (after os .struct) c .answer ≡ PlaceAnswer.At x y k → LowEnough (pageIn (after os)) (cleaned c) y
+unfolding placeOf
+y-low-enough os c f g x y k e = subst (Lies (pageIn (after os)) (cleaned c)) e (place-ok (pageIn (after os)) (after os .accepted) c (reached os f) g .lies)
+
+-- refusal 6 comes of the bottom alone: placed inset plus width is in reach
+pub inset-never-far : (os : List Act) (c : Call) → Handed F32 os → Each F32 (handed (box c)) → inputCheck (cleaned c) ≡ Check.Passed → T (inReach (add binary32 (spotOf (pageIn (after os)) (cleaned c) .inset) (cleaned c .width)))
+inset-never-far os c f g e = let n = passed c g e in inset-in-reach (pageIn (after os)) (after os .accepted) (cleaned c) (reached os f) (n .0) (n .1)
+
+-- so a box of no height is never refused with 6
+pub flat-never-far : (os : List Act) (c : Call) → Handed F32 os → Each F32 (handed (box c)) → T (eq (cleaned c .height) zero+) → placeOf (after os .struct) c .answer ≡ PlaceAnswer.Refused Refusal.TooFar → ⊥
+unfolding placeOf
+flat-never-far os c f g = flat-not-6 (pageIn (after os)) (after os .accepted) c (reached os f) g
+
+-- a content question at a height, with insets 0, no clear and after none, answers that height and what stands there
+pub content-insets : (os : List Act) → Handed F32 os → (h : Float) → F32 h → (s : ContentSlot) → content (pageIn (after os)) (contentAt h) ≡ ContentAnswer.Slot s → Between (pageIn (after os)) (plusZero h) s
+content-insets os f h g s e = subst (Answers (pageIn (after os)) (plusZero h)) e (content-told (pageIn (after os)) h (reached os f .chain) g)
+
 -- ---- if every number handed in was whole 64ths
 
 -- all numbers that the page then holds are whole 64ths
@@ -102,9 +137,14 @@ tolerance-idle os c f s g h e l t j i =
     let n = passed c g e in
     fits-idle (askOf p d) (ask64 p (after os .accepted) d v (n .0) (known64 (numbers d) (cleaned-fits c g) h (n .1) (n .0))) (joins64 (v .bands) j) (joins64 (v .bands) i) (joins-ins (v .inv .chain) j) (joins-ins (v .inv .chain) i)
 
+-- the far edges x + width, y + height and inset + width are not rounded
+pub edges-exact : (os : List Act) → Handed F32 os → Handed Whole64 os
+    → Each (λ a. ExactSum (a .x) (a .call .width) (rightEdge a) × ExactSum (a .y) (a .call .height) (bottom a) × ExactSum (a .inset) (a .call .width) (farInset a)) (after os .accepted)
+edges-exact os f s = each-boxed os f s exact-edges
+
 -- rule 7: beside an earlier box of its side, inset + width is at most page width - containing trail inset
 pub rule-7 : (os : List Act) → Handed F32 os → Handed Whole64 os
-    → Pairs (λ a b. T (sameSide (sideIn a) (sideIn b)) → T (sized a) → T (sized b) → T (shareHeight a b) → T (le (add binary32 (b .inset) (b .call .width)) (sub binary32 (pageIn (after os) .width) (containingTrail b)))) (after os .accepted)
+    → Pairs (λ a b. T (sameSide (sideIn a) (sideIn b)) → T (sized a) → T (sized b) → T (shareHeight a b) → T (le (farInset b) (sub binary32 (pageIn (after os) .width) (containingTrail b)))) (after os .accepted)
 rule-7 os f s = clear-pairs os f s seven
 
 -- no two accepted boxes of positive size overlap

@@ -22,7 +22,7 @@ use Rattle.float.specs.Refuse.{checkOf}
 use Rattle.float.specs.Bands.{lead, none}
 use Rattle.float.specs.Page.{Page}
 use Rattle.float.specs.Place.{Call, cleaned, numbers, inputCheck}
-use Rattle.demands.specs.Runs.{Each, Pairs, Act, box, handed, Handed, F32, Whole64, after, pageIn, Accepted, boxIn, insetAt, NoSmaller, EdgeToEdge, Joins, unjoined, joins, joinsTwo, Bottom64, Page64}
+use Rattle.demands.specs.Runs.{Each, Pairs, Act, box, handed, Handed, F32, Whole64, after, pageIn, Accepted, boxIn, xFrom, insetAt, NoSmaller, EdgeToEdge, Joins, unjoined, joins, joinsTwo, Bottom64, Page64}
 use Rattle.demands.proofs.Laws.{Ins, ins-zero, larger-ins}
 use Rattle.demands.proofs.Chain.{Chain, chain-at}
 use Rattle.demands.proofs.Heights.{Grows, at-ins, at-is}
@@ -32,6 +32,7 @@ use Rattle.demands.proofs.Exact.{two, Q, q-zero, q-larger}
 use Rattle.demands.proofs.Bands64.{Band64, band-at}
 use Rattle.demands.proofs.Apart.{Beside, Box64, Inv64}
 use Rattle.demands.proofs.Reached.{reached64}
+use Rattle.demands.proofs.Edges.{Boxed}
 
 -- ---- bands
 pub edges : (x : Float) (l : List Segment) → Chain x l → EdgeToEdge x l
@@ -84,15 +85,15 @@ bottom64 : (b : Bottom) → BottomIs Q b → Bottom64 b
 bottom64 Bottom.None q = tt
 bottom64 (Bottom.At x) q = said64 x q
 
-boxes64 : (w : Float) (g : List Accepted) → Each (Box64 w) g → Each (λ (b : PlacedFloatedBox). T (is64 (b .width)) × T (is64 (b .height)) × T (is64 (b .«x_inset»)) × T (is64 (b .y))) (map boxIn g)
-boxes64 w [] h = tt
-boxes64 w (a ∷ g) h = ((said64 (a .call .width) (h .0 .width), said64 (a .call .height) (h .0 .height), said64 (a .inset) (h .0 .inset), said64 (a .y) (h .0 .y)), boxes64 w g (h .1))
+boxes64 : (g : List Accepted) → Each Box64 g → Each (λ (b : PlacedFloatedBox). T (is64 (b .width)) × T (is64 (b .height)) × T (is64 (b .«x_inset»)) × T (is64 (b .y))) (map boxIn g)
+boxes64 [] h = tt
+boxes64 (a ∷ g) h = ((said64 (a .call .width) (h .0 .width), said64 (a .call .height) (h .0 .height), said64 (a .inset) (h .0 .inset), said64 (a .y) (h .0 .y)), boxes64 g (h .1))
 
 pub page64 : (p : Page) (g : List Accepted) → Inv64 p g → Page64 p
 page64 p g v = record {
   width = said64 (p .width) (v .width);
   bands = each-map Band64 (λ b. T (is64 (b .end)) × T (is64 (b .left)) × T (is64 (b .right))) (p .bands) (λ b q. (said64 (b .end) (q .end), said64 (b .left) (q .inset FloatDirection.Left), said64 (b .right) (q .inset FloatDirection.Right))) (v .bands);
-  boxes = subst (Each (λ b. T (is64 (b .width)) × T (is64 (b .height)) × T (is64 (b .«x_inset»)) × T (is64 (b .y)))) (sym (v .inv .boxes)) (boxes64 (p .width) g (v .boxes));
+  boxes = subst (Each (λ b. T (is64 (b .width)) × T (is64 (b .height)) × T (is64 (b .«x_inset»)) × T (is64 (b .y)))) (sym (v .inv .boxes)) (boxes64 g (v .boxes));
   leftBottom = bottom64 (p .leftBottom) (v .bottom FloatDirection.Left);
   rightBottom = bottom64 (p .rightBottom) (v .bottom FloatDirection.Right);
   ceiling = bottom64 (p .ceiling) (v .ceiling);
@@ -114,8 +115,15 @@ pairs-map P R S [] f h g = tt
 pairs-map P R S (x ∷ l) f h g = (each-map (λ y. P y × R x y) (S x) l (λ y t. f x y (h .0) (t .0) (t .1)) (each-both P (R x) l (h .1) (g .0)), pairs-map P R S l f (h .1) (g .1))
 
 -- what follows of two boxes that are clear of each other, of every two accepted ones
-pub clear-pairs : {S : Float → Accepted → Accepted → Type 0} (os : List Act) → Handed F32 os → Handed Whole64 os → ((w : Float) → Q w → Ins w → (a b : Accepted) → Box64 w a → Box64 w b → Beside w a b → S w a b) → Pairs (S (pageIn (after os) .width)) (after os .accepted)
-clear-pairs {S} os f s h =
-    let v = reached64 os f s in
-    let w = pageIn (after os) .width in
-    pairs-map (Box64 w) (Beside w) (S w) (after os .accepted) (h w (v .width) (v .inv .width)) (v .boxes) (v .beside)
+module _ (os : List Act) (f : Handed F32 os) (s : Handed Whole64 os) where
+  abbrev page : Page
+  page = pageIn (after os)
+
+  boxed : Each (Boxed (page .width)) (after os .accepted)
+  boxed = let v = reached64 os f s in each-both Box64 (λ a. a .x ≡ xFrom (page .width) a) (after os .accepted) (v .boxes) (v .inv .answers)
+
+  pub each-boxed : {S : Float → Accepted → Type 0} → ((w : Float) → Q w → Ins w → (a : Accepted) → Boxed w a → S w a) → Each (S (page .width)) (after os .accepted)
+  each-boxed {S} h = let v = reached64 os f s in each-map (Boxed (page .width)) (S (page .width)) (after os .accepted) (h (page .width) (v .width) (v .inv .width)) boxed
+
+  pub clear-pairs : {S : Float → Accepted → Accepted → Type 0} → ((w : Float) → Q w → Ins w → (a b : Accepted) → Boxed w a → Boxed w b → Beside w a b → S w a b) → Pairs (S (page .width)) (after os .accepted)
+  clear-pairs {S} h = let v = reached64 os f s in pairs-map (Boxed (page .width)) (Beside (page .width)) (S (page .width)) (after os .accepted) (h (page .width) (v .width) (v .inv .width)) boxed (v .beside)

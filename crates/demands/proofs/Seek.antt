@@ -2,13 +2,13 @@
 use mathlib.Core.Path.{_≡_, refl, sym, ap, subst}
 use mathlib.Core.Logic.{_⊎_, inl, inr}
 use Prim.Native.Nat.{ℕ, zero, suc, _+_, _-_, _≤_, _<_, max}
-use native.Mathlib.Nat.{le-of-suc-le-suc, not-suc-le-zero}
+use native.Mathlib.Nat.{not-suc-le-zero}
 use native.Mathlib.Decide.{decLe}
 use native.Mathlib.Omega.{arith}
 use mathlib.Core.Bool.{Bool, true, false, not, cond}
-use mathlib.Core.List.{List, [], _∷_}
+use mathlib.Core.List.{List}
 use lib.Dec.{T, ltb, eqb, ltb→lt, nltb→le, eqb→eq, eqb-refl, T-not}
-use lib.Ieee.{Float, inf, binary32, binary64, add, sub, lt, le}
+use lib.Ieee.{Float, inf, binary32, binary64, add, sub, le}
 use lib.ListN.{length, getD}
 use Rattle.f32_laws.specs.Numbers.{larger, zero+}
 use Rattle.f32_laws.proofs.Tests.{both}
@@ -18,11 +18,12 @@ use Rattle.float.specs.declared.Segment.{Segment}
 use Rattle.float.specs.declared.fit.Ask.{Ask}
 use Rattle.float.specs.declared.search.Reach.{Reach}
 use Rattle.float.specs.declared.search.Spot.{Spot}
-use Rattle.float.specs.Bands.{other, lead, none, firstBelow}
+use Rattle.float.specs.Bands.{other, lead, none}
 use Rattle.float.specs.Fit.{placedAt, fits}
-use Rattle.float.specs.Search.{State, atStart, atEnd, Turn, stop, again, spot, joined, opened, taller, giveUp, highTurn, joinTurn, endTurn, fitTurn, startTurn, turn, search, searchFrom}
+use Rattle.float.specs.Search.{State, atStart, atEnd, Turn, spot, joined, opened, taller, giveUp, highTurn, joinTurn, endTurn, fitTurn, startTurn, turn, search, searchFrom}
 use Rattle.demands.proofs.Laws.{k, Val, Ins, zero-k, ins-zero, larger-ins, larger-top, fits-down}
 use Rattle.demands.proofs.Chain.{Chain, chain-at, chain-next}
+use Rattle.demands.proofs.Turns.{Ordered, Keeps, search-has}
 
 -- from band f on the insets of the side r do not rise
 abbrev pub Falls : FloatDirection → ℕ → List Segment → Type 0
@@ -35,10 +36,6 @@ pub record Asked (a : Ask) : Type 0 where
   pub cbLead : Ins (a .«cb_lead»)
   pub cbTrail : Ins (a .«cb_trail»)
 
--- the height y is in the band or at its start
-abbrev pub Holds : Segment → Float → Type 0
-Holds b y = (k y ≡ k (b .start)) ⊎ (k y < k (b .end))
-
 -- What is known of the numbers of the search (Ok), and of the counted height z from y on to the end of band e, kept by opening a start, adding a band and passing one over.
 -- Nothing need be known of it for demand 3 on any f32; on 64ths it says that z is no more than the way down.
 pub record Count (l : List Segment) : Type 1 where
@@ -47,7 +44,7 @@ pub record Count (l : List Segment) : Type 1 where
   pub ok-lead : (r : FloatDirection) (i : ℕ) → i < length l → Ok (lead r (getD l i none))
   pub ok-rise : (i : ℕ) (y : Float) → i < length l → Val y → Ok y → Ok (larger y (getD l i none .start))
   pub Has : ℕ → Float → Float → Type 0
-  pub open' : (s : ℕ) (y : Float) → s < length l → Val y → Ok y → k (getD l s none .start) ≤ k y → Holds (getD l s none) y → Has s y (sub binary32 (getD l s none .end) y)
+  pub open' : (s : ℕ) (y : Float) → s < length l → Val y → Ok y → k (getD l s none .start) ≤ k y → k y ≤ k (getD l s none .end) → Has s y (sub binary32 (getD l s none .end) y)
   pub next : (e : ℕ) (y z : Float) → suc e < length l → Has e y z → Has (suc e) y (add binary64 z (sub binary32 (getD l (suc e) none .end) (getD l (suc e) none .start)))
   pub skip : (e : ℕ) (y z : Float) → suc e < length l → Has e y z → Has (suc e) y z
 
@@ -58,7 +55,7 @@ module _ (l : List Segment) (a : Ask) (F : ℕ) (y0 : Float) (H : Count l) where
   -- what a found start and end keep
   pub record Fit (p : Spot) : Type 0 where
     pub above : k (getD l (p .start) none .start) ≤ k (p .y)
-    pub holds : Holds (getD l (p .start) none) (p .y)
+    pub upTo : k (p .y) ≤ k (getD l (p .start) none .end)
     pub jl : Float
     pub jt : Float
     pub lead-ins : Ins jl
@@ -80,8 +77,7 @@ module _ (l : List Segment) (a : Ask) (F : ℕ) (y0 : Float) (H : Count l) where
     pub inset : Ins (p .inset)
     pub y-ok : H .Ok (p .y)
     pub inset-ok : H .Ok (p .inset)
-    pub cb : k (a .«cb_lead») ≤ k (p .inset)
-    pub steps : p .steps ≤ length l + length l
+    pub alone : length l ≤ p .start → p .inset ≡ a .«cb_lead»
     pub fit : p .start < length l → Fit p
 
   -- the bands from the start up to the end were passed over: on the side q none is above the end's
@@ -102,30 +98,24 @@ module _ (l : List Segment) (a : Ask) (F : ℕ) (y0 : Float) (H : Count l) where
   abbrev Tall : ℕ → ℕ → Float → Float → Type 0
   Tall s e y z = ((e ≡ s) × H .Has s y z) ⊎ ((d : ℕ) × (e ≡ suc d) × (s ≤ d) × H .Has d y z)
 
-  record StartOk (f s e : ℕ) (y : Float) (n : ℕ) : Type 0 where
+  record StartOk (s e : ℕ) (y : Float) : Type 0 where
     first : F ≤ s
-    order : s ≤ e
-    last : e ≤ length l
-    fuel : length l + length l ≤ f + (s + e)
-    steps : n + f ≤ length l + length l
     val : Val y
     ok : H .Ok y
     low : k y0 ≤ k y
-    edge : s < length l → (k y < k (getD l s none .end)) ⊎ (k y ≤ k (getD l s none .start))
+    upTo : s < length l → k y ≤ k (getD l s none .end)
     passed : Passed s e
 
-  record EndOk (f s e : ℕ) (y : Float) (n : ℕ) (j : Reach) : Type 0 where
+  record EndOk (s e : ℕ) (y : Float) (j : Reach) : Type 0 where
     first : F ≤ s
     order : s ≤ e
     last : e ≤ length l
-    fuel : length l + length l ≤ f + (s + e)
-    steps : n + f ≤ length l + length l
     val : Val y
     ok : H .Ok y
     low : k y0 ≤ k y
     real : s < length l
     above : k (getD l s none .start) ≤ k y
-    holds : Holds (getD l s none) y
+    upTo : k y ≤ k (getD l s none .end)
     jl : Ins (j .lead)
     jt : Ins (j .trail)
     jl-ok : H .Ok (j .lead)
@@ -136,14 +126,12 @@ module _ (l : List Segment) (a : Ask) (F : ℕ) (y0 : Float) (H : Count l) where
     taken : Taken s e j
     tall : Tall s e y (j .height)
 
-  abbrev Good : ℕ → State → Type 0
-  Good f (atStart s e y n) = StartOk f s e y n
-  Good f (atEnd s e y n j) = EndOk f s e y n j
+  abbrev Good : State → Type 0
+  Good (atStart s e y n) = StartOk s e y
+  Good (atEnd s e y n j) = EndOk s e y j
 
-  abbrev Follow : ℕ → Turn → Type 0
-  Follow f (stop p) = Found p
-  Follow zero (again st) = ⊥
-  Follow (suc f) (again st) = Good f st
+  abbrev Follow : Turn → Type 0
+  Follow = Keeps l a Good Found
 
   larger-ok : {x y : Float} → H .Ok x → H .Ok y → H .Ok (larger x y)
   larger-ok {x} {y} p q = go (larger-one x y)
@@ -153,10 +141,6 @@ module _ (l : List Segment) (a : Ask) (F : ℕ) (y0 : Float) (H : Count l) where
       go (inr e) = subst (H .Ok) (sym e) q
 
   module _ (c : Chain (inf true) l) (q : Asked a) (cb-ok : H .Ok (a .«cb_lead»)) where
-    onward : (f : ℕ) (st : State) → 0 < f → ((g : ℕ) → f ≡ suc g → Good g st) → Follow f (again st)
-    onward zero st h d = absurd (not-suc-le-zero h)
-    onward (suc f) st h d = d f refl
-
     -- a band's insets
     ins : (r : FloatDirection) (i : ℕ) → i < length l → Ins (lead r (getD l i none))
     ins r i h = chain-at (inf true) l i c h .inset r
@@ -171,22 +155,17 @@ module _ (l : List Segment) (a : Ask) (F : ℕ) (y0 : Float) (H : Count l) where
     next-passed s e h (inl p) = inl (p .0, next-over (other (a .side)) s e h (p .1))
     next-passed s e h (inr p) = inr (p .0, next-over (a .side) s e h (p .1))
 
-    give-up : (f s e : ℕ) (y : Float) (n : ℕ) → s < length l → F ≤ s → s ≤ e → e ≤ length l → length l + length l ≤ f + (s + e) → n + f ≤ length l + length l → Val y → H .Ok y → k y0 ≤ k y
-        → k y ≤ k (getD l s none .end) → Passed s e → Follow f (giveUp s e y n)
-    give-up f s e y n h i o t u m v v' w x p = onward f (atStart (suc s) (max e (suc s)) y (suc n)) (omega arith) (λ g z. record {
+    give-up : (s e : ℕ) (y : Float) (n : ℕ) → F ≤ s → s ≤ e → Val y → H .Ok y → k y0 ≤ k y → k y ≤ k (getD l s none .end) → Passed s e → Follow (giveUp s e y n)
+    give-up s e y n i o v v' w x p = record {
       first = omega arith;
-      order = omega arith;
-      last = omega arith;
-      fuel = omega arith;
-      steps = omega arith;
       val = v;
       ok = v';
       low = w;
-      edge = λ (m : suc s < length l). inr (omega (arith, ap k (chain-next (inf true) l s c m)));
+      upTo = λ (m : suc s < length l). omega (arith, ap k (chain-next (inf true) l s c m), chain-at (inf true) l (suc s) c m .order);
       passed = next-passed s e o p;
-    })
+    }
 
-    module _ (f s e : ℕ) (y : Float) (n : ℕ) (j : Reach) (g : EndOk f s e y n j) where
+    module _ (s e : ℕ) (y : Float) (n : ℕ) (j : Reach) (g : EndOk s e y j) where
       -- on the side r every band up to the end, the end's own left out, is covered by what covers the joined inset and the end's
       covered : (r : FloatDirection) (x0 x : Float) → Falls r F l ⊎ Held r s e x0 → k (lead r (getD l s none)) ≤ k x0 → k x0 ≤ k x → (e < length l → k (lead r (getD l e none)) ≤ k x) → (i : ℕ) → s ≤ i → i < e → i < length l → k (lead r (getD l i none)) ≤ k x
       covered r x0 x d m h o i u v w = go d
@@ -226,11 +205,10 @@ module _ (l : List Segment) (a : Ask) (F : ℕ) (y0 : Float) (H : Count l) where
         inset = larger-ins v (q .cbLead);
         y-ok = g .ok;
         inset-ok = larger-ok w cb-ok;
-        cb = omega arith;
-        steps = omega (arith, g .steps);
+        alone = λ o. absurd (not-suc-le-zero {n = 0} (omega (arith, g .real)));
         fit = λ u. record {
           above = g .above;
-          holds = g .holds;
+          upTo = g .upTo;
           jl = xl;
           jt = xt;
           lead-ins = v;
@@ -313,19 +291,17 @@ module _ (l : List Segment) (a : Ask) (F : ℕ) (y0 : Float) (H : Count l) where
             go (yes d) = subst (λ (b : ℕ). k (lead r (getD l b none)) ≤ k x) {x = e} {y = i} (omega arith) o
             go (no d) = on (p i u (omega arith))
 
-        went : T (fits a (j' .lead) (j' .trail)) → (z : Float) → H .Has e y z → (g' : ℕ) → f ≡ suc g' → EndOk g' s (suc e) y (suc n) (record { lead = j' .lead; trail = j' .trail; height = z })
-        went t z d g' r = record {
+        went : T (fits a (j' .lead) (j' .trail)) → (z : Float) → H .Has e y z → EndOk s (suc e) y (record { lead = j' .lead; trail = j' .trail; height = z })
+        went t z d = record {
           first = g .first;
           order = omega (arith, g .order);
           last = h;
-          fuel = omega (arith, g .fuel);
-          steps = omega (arith, g .steps);
           val = g .val;
           ok = g .ok;
           low = g .low;
           real = g .real;
           above = g .above;
-          holds = g .holds;
+          upTo = g .upTo;
           jl = lead';
           jt = trail';
           jl-ok = lead-ok';
@@ -341,22 +317,18 @@ module _ (l : List Segment) (a : Ask) (F : ℕ) (y0 : Float) (H : Count l) where
             go (inl p) = inl (p .0, held (other (a .side)) (j .trail) (j' .trail) (p .1) (omega (arith, trail-is)) (omega (arith, trail-is)))
             go (inr p) = inr (p .0, held (a .side) (j .lead) (j' .lead) (p .1) (omega (arith, lead-is)) (omega (arith, lead-is)))
 
-      end-ok : Follow f (endTurn l a s e y n j)
+      end-ok : Follow (endTurn l a s e y n j)
       unfolding endTurn joinTurn highTurn taller
       end-ok =
-          both (Follow f) (ltb e (length l))
+          both Follow (ltb e (length l))
           (λ t. let h = ltb→lt e (length l) t in
-          both (Follow f) (fits a (j' h .lead) (j' h .trail))
-          (λ u. both (Follow f) (le (a .height) (taller (j' h) (getD l e none) (eqb e s) .height))
+          both Follow (fits a (j' h .lead) (j' h .trail))
+          (λ u. both Follow (le (a .height) (taller (j' h) (getD l e none) (eqb e s) .height))
           (λ v. found (j' h .lead) (j' h .trail) (lead' h) (trail' h) (lead-ok' h) (trail-ok' h) u (omega (arith, lead-is h)) (omega (arith, trail-is h)) (λ o. omega (arith, lead-is h)) (λ o. omega (arith, trail-is h)) (λ o. (_, higher h, v)))
-          (λ v. onward f (atEnd s (suc e) y (suc n) (taller (j' h) (getD l e none) (eqb e s))) (omega (arith, g .fuel, g .order)) (went h u _ (higher h))))
-          (λ u. give-up f s e y n (g .real) (g .first) (g .order) (g .last) (g .fuel) (g .steps) (g .val) (g .ok) (g .low) (in-band (g .holds)) (failed h u)))
+          (λ v. went h u _ (higher h)))
+          (λ u. give-up s e y n (g .first) (g .order) (g .val) (g .ok) (g .low) (g .upTo) (failed h u)))
           (λ t. let h = nltb→le e (length l) t in
           found (j .lead) (j .trail) (g .jl) (g .jt) (g .jl-ok) (g .jt-ok) (g .room) (omega arith) (omega arith) (λ o. absurd (not-suc-le-zero {n = 0} (omega arith))) (λ o. absurd (not-suc-le-zero {n = 0} (omega arith))) (λ o. absurd (not-suc-le-zero {n = 0} (omega arith))))
-        where
-          in-band : Holds (getD l s none) y → k y ≤ k (getD l s none .end)
-          in-band (inl h) = omega (arith, chain-at (inf true) l s c (g .real) .order)
-          in-band (inr h) = omega arith
 
     -- the bands between the start and an end that stayed behind are passed over
     skipped : (s d : ℕ) (y z : Float) → s + d < length l → H .Has s y z → H .Has (s + d) y z
@@ -366,10 +338,10 @@ module _ (l : List Segment) (a : Ask) (F : ℕ) (y0 : Float) (H : Count l) where
         subst (λ (i : ℕ). H .Has i y z) (sym e) (H .skip (s + d) y z (omega arith) (skipped s d y z (omega arith) p))
 
     -- a start band that fits
-    opened-ok : (f s e : ℕ) (y : Float) (n : ℕ) → StartOk f s e y n → (h : s < length l) → T (fits a (lead (a .side) (getD l s none)) (lead (other (a .side)) (getD l s none)))
-        → EndOk f s e (larger y (getD l s none .start)) n (opened (a .side) (getD l s none) (larger y (getD l s none .start)))
+    opened-ok : (s e : ℕ) (y : Float) → s ≤ e → e ≤ length l → StartOk s e y → (h : s < length l) → T (fits a (lead (a .side) (getD l s none)) (lead (other (a .side)) (getD l s none)))
+        → EndOk s e (larger y (getD l s none .start)) (opened (a .side) (getD l s none) (larger y (getD l s none .start)))
     unfolding joined
-    opened-ok f s e y n g h t =
+    opened-ok s e y o o' g h t =
         let b = chain-at (inf true) l s c h in
         let m = larger-key (g .val .num) (b .start .num) in
         let u = larger-key (ins-zero .num) (ins (a .side) s h .num) in
@@ -377,16 +349,14 @@ module _ (l : List Segment) (a : Ask) (F : ℕ) (y0 : Float) (H : Count l) where
         let w = larger-top (g .val) (b .start) in
         record {
           first = g .first;
-          order = g .order;
-          last = g .last;
-          fuel = g .fuel;
-          steps = g .steps;
+          order = o;
+          last = o';
           val = w;
           ok = H .ok-rise s y h (g .val) (g .ok);
           low = omega (arith, g .low);
           real = h;
           above = omega arith;
-          holds = go m (g .edge h);
+          upTo = omega (arith, g .upTo h, b .order);
           jl = larger-ins ins-zero (ins (a .side) s h);
           jt = larger-ins ins-zero (ins (other (a .side)) s h);
           jl-ok = larger-ok (H .ok-zero) (H .ok-lead (a .side) s h);
@@ -395,117 +365,50 @@ module _ (l : List Segment) (a : Ask) (F : ℕ) (y0 : Float) (H : Count l) where
           hasLead = omega arith;
           hasTrail = omega arith;
           taken = on (g .passed);
-          tall = up (decLe e s) (H .open' s (larger y (getD l s none .start)) h w (H .ok-rise s y h (g .val) (g .ok)) (omega arith) (go m (g .edge h)));
+          tall = up (decLe e s) (H .open' s (larger y (getD l s none .start)) h w (H .ok-rise s y h (g .val) (g .ok)) (omega arith) (omega (arith, g .upTo h, b .order)));
         }
       where
-        go : k (larger y (getD l s none .start)) ≡ max (k y) (k (getD l s none .start)) → (k y < k (getD l s none .end)) ⊎ (k y ≤ k (getD l s none .start)) → Holds (getD l s none) (larger y (getD l s none .start))
-        go m (inr o) = inl (omega arith)
-        go m (inl o) = split (decLe (k y) (k (getD l s none .start)))
-          where
-            split : Dec (k y ≤ k (getD l s none .start)) → Holds (getD l s none) (larger y (getD l s none .start))
-            split (yes d) = inl (omega arith)
-            split (no d) = inr (omega arith)
-
         on : Passed s e → Taken s e (opened (a .side) (getD l s none) (larger y (getD l s none .start)))
         on (inl p) = inl (p .0, λ i u v. inr (p .1 i u v))
         on (inr p) = inr (p .0, λ i u v. inr (p .1 i u v))
 
         up : {z : Float} → Dec (e ≤ s) → H .Has s (larger y (getD l s none .start)) z → Tall s e (larger y (getD l s none .start)) z
-        up {z} (yes d) p = inl (omega (arith, g .order), p)
-        up {z} (no d) p = inr (s + (e - suc s), omega arith, omega arith, skipped s (e - suc s) (larger y (getD l s none .start)) z (omega (arith, g .last)) p)
+        up {z} (yes d) p = inl (omega arith, p)
+        up {z} (no d) p = inr (s + (e - suc s), omega arith, omega arith, skipped s (e - suc s) (larger y (getD l s none .start)) z (omega arith) p)
 
-    start-ok : (f s e : ℕ) (y : Float) (n : ℕ) → StartOk f s e y n → Follow f (startTurn l a s e y n)
+    turn-ok : (st : State) → Ordered l a st → Good st → Follow (turn l a st)
     unfolding startTurn fitTurn
-    start-ok f s e y n g =
-        both (Follow f) (ltb s (length l))
+    turn-ok (atStart s e y n) o g =
+        both Follow (ltb s (length l))
         (λ t. let h = ltb→lt s (length l) t in
-        both (Follow f) (fits a (lead (a .side) (getD l s none)) (lead (other (a .side)) (getD l s none)))
-        (λ u. end-ok f s e (larger y (getD l s none .start)) n (opened (a .side) (getD l s none) (larger y (getD l s none .start))) (opened-ok f s e y n g h u))
-        (λ u. give-up f s e y n h (g .first) (g .order) (g .last) (g .fuel) (g .steps) (g .val) (g .ok) (g .low) (in-band h (g .edge h)) (g .passed)))
+        both Follow (fits a (lead (a .side) (getD l s none)) (lead (other (a .side)) (getD l s none)))
+        (λ u. end-ok s e (larger y (getD l s none .start)) n (opened (a .side) (getD l s none) (larger y (getD l s none .start))) (opened-ok s e y (o .0) (o .1) g h u))
+        (λ u. give-up s e y n (g .first) (o .0) (g .val) (g .ok) (g .low) (g .upTo h) (g .passed)))
         (λ t. let h = nltb→le s (length l) t in record {
           first = g .first;
-          order = g .order;
-          last = g .last;
+          order = o .0;
+          last = o .1;
           y = g .val;
           low = g .low;
           inset = q .cbLead;
           y-ok = g .ok;
           inset-ok = cb-ok;
-          cb = omega arith;
-          steps = omega (arith, g .steps);
+          alone = λ o. refl;
           fit = λ o. absurd (not-suc-le-zero {n = 0} (omega arith));
         })
-      where
-        in-band : s < length l → (k y < k (getD l s none .end)) ⊎ (k y ≤ k (getD l s none .start)) → k y ≤ k (getD l s none .end)
-        in-band h (inl m) = omega arith
-        in-band h (inr m) = omega (arith, chain-at (inf true) l s c h .order)
+    turn-ok (atEnd s e y n j) o g = end-ok s e y n j g
 
-    turn-ok : (f : ℕ) (st : State) → Good f st → Follow f (turn l a st)
-    turn-ok f (atStart s e y n) g = start-ok f s e y n g
-    turn-ok f (atEnd s e y n j) g = end-ok f s e y n j g
-
-    search-ok : (f : ℕ) (st : State) → Good f st → Found (search f l a st)
-    unfolding search
-    search-ok zero st g = go (turn l a st) (turn-ok zero st g)
-      where
-        go : (t : Turn) → Follow zero t → Found (elim t [ stop p ↦ p | again x ↦ spot 0 0 zero+ zero+ 0 ])
-        go (stop p) h = h
-        go (again x) h = absurd h
-    search-ok (suc f) st g = go (turn l a st) (turn-ok (suc f) st g) (search-ok f)
-      where
-        go : (t : Turn) → Follow (suc f) t → ((st : State) → Good f st → Found (search f l a st)) → Found (elim t [ stop p ↦ p | again x ↦ search f l a x ])
-        go (stop p) h r = h
-        go (again x) h r = r x h
-
-    -- THE SEARCH: from a first band whose end is below y0
-    pub search-law : (s : ℕ) → F ≤ s → s ≤ length l → Val y0 → H .Ok y0 → (s < length l → k y0 < k (getD l s none .end)) → Falls (a .side) F l ⊎ Falls (other (a .side)) F l → Found (searchFrom l a s y0)
-    unfolding searchFrom
-    search-law s h i v v' e d = search-ok (length l + length l) (atStart s s y0 0) (record {
+    -- from a first band whose end is at or below y0
+    pub search-law : (s : ℕ) → F ≤ s → s ≤ length l → Val y0 → H .Ok y0 → (s < length l → k y0 ≤ k (getD l s none .end)) → Falls (a .side) F l ⊎ Falls (other (a .side)) F l → Found (searchFrom l a s y0)
+    search-law s h i v v' e d = search-has l a Good Found turn-ok s y0 i (record {
       first = h;
-      order = omega arith;
-      last = i;
-      fuel = omega arith;
-      steps = omega arith;
       val = v;
       ok = v';
       low = omega arith;
-      edge = λ t. inl (e t);
+      upTo = e;
       passed = go d;
     })
       where
         go : Falls (a .side) F l ⊎ Falls (other (a .side)) F l → Passed s s
         go (inl p) = inl (p, λ i u w. absurd (not-suc-le-zero {n = 0} (omega arith)))
         go (inr p) = inr (p, λ i u w. absurd (not-suc-le-zero {n = 0} (omega arith)))
-
--- the first band
-pub first-le : (l : List Segment) (f : ℕ) (y : Float) → firstBelow l f y ≤ length l
-unfolding firstBelow
-first-le [] f y = omega arith
-first-le (b ∷ bs) zero y = go (lt y (b .end)) (first-le bs zero y)
-  where
-    go : (t : Bool) → firstBelow bs zero y ≤ length bs → (elim t [ true ↦ 0 | false ↦ suc (firstBelow bs zero y) ]) ≤ suc (length bs)
-    go true h = omega arith
-    go false h = omega arith
-first-le (b ∷ bs) (suc f) y = omega (arith, first-le bs f y)
-
-pub first-ge : (l : List Segment) (f : ℕ) (y : Float) → f ≤ length l → f ≤ firstBelow l f y
-unfolding firstBelow
-first-ge [] f y h = h
-first-ge (b ∷ bs) zero y h = omega arith
-first-ge (b ∷ bs) (suc f) y h = omega (arith, first-ge bs f y (le-of-suc-le-suc h))
-
-pub first-end : (l : List Segment) (f : ℕ) (y : Float) → firstBelow l f y < length l → T (lt y (getD l (firstBelow l f y) none .end))
-unfolding firstBelow
-first-end [] f y h = absurd (not-suc-le-zero h)
-first-end (b ∷ bs) zero y h = go (lt y (b .end)) refl (first-end bs zero y) h
-  where
-    go : (t : Bool) → lt y (b .end) ≡ t → (firstBelow bs zero y < length bs → T (lt y (getD bs (firstBelow bs zero y) none .end))) → (elim t [ true ↦ 0 | false ↦ suc (firstBelow bs zero y) ]) < suc (length bs) → T (lt y (getD (b ∷ bs) (elim t [ true ↦ 0 | false ↦ suc (firstBelow bs zero y) ]) none .end))
-    go true e r h = subst T (sym e) tt
-    go false e r h = r (le-of-suc-le-suc h)
-first-end (b ∷ bs) (suc f) y h = first-end bs f y (le-of-suc-le-suc h)
-
-pub first-far : (l : List Segment) (f : ℕ) (y : Float) → length l ≤ f → firstBelow l f y ≡ length l
-unfolding firstBelow
-first-far [] f y h = refl
-first-far (b ∷ bs) zero y h = absurd (not-suc-le-zero h)
-first-far (b ∷ bs) (suc f) y h = ap suc (first-far bs f y (le-of-suc-le-suc h))

@@ -1,20 +1,14 @@
 -- The struct holds the page that was stored in it, so a call on structs is the call on pages; and a refusal hands back the page.
 use mathlib.Core.Path.{_≡_, refl}
-use mathlib.Core.Bool.{_&&_}
-use lib.Dec.{ltb, leb}
-use lib.Ieee.{Float, eq}
-use lib.ListN.{length}
+use lib.Ieee.{Float}
 use lib.Seq.{take-append-seam}
-use Rattle.f32_laws.specs.Numbers.{zero+}
-use Rattle.f32_laws.proofs.Tests.{both}
 use Rattle.float.specs.declared.Done.{Done}
 use Rattle.float.specs.declared.FloatContext.{FloatContext}
 use Rattle.float.specs.declared.PlaceAnswer.{PlaceAnswer}
-use Rattle.float.specs.declared.search.Spot.{Spot}
 use Rattle.float.specs.Numbers.{plusZero}
-use Rattle.float.specs.Page.{Page, fresh, pageOf, front, stored, freshContext, maxBands, maxBoxes}
-use Rattle.float.specs.Place.{Call, cleaned, numbers, Result, make, near, high, flat, put, askOf, spotOf, admitted, checked, place, placedPage, placeOf, widthCheck, withWidth, ifDone, setWidth, widthOf}
-use Rattle.demands.proofs.Input.{check-both}
+use Rattle.float.specs.Page.{Page, fresh, pageOf, front, stored, freshContext}
+use Rattle.float.specs.Place.{Call, Result, place, placedPage, placeOf, widthCheck, withWidth, ifDone, setWidth, widthOf}
+use Rattle.demands.proofs.Ways.{place-ways}
 
 page-stored : (q : Page) (p : FloatContext) → pageOf (stored q p) ≡ q
 unfolding pageOf stored front
@@ -29,21 +23,7 @@ abbrev Left : Page → Result → Type 0
 Left p r = elim (r .answer) [ PlaceAnswer.At x y k ↦ Unit {0} | PlaceAnswer.Refused n ↦ r .page ≡ p ]
 
 refused-left : (p : Page) (c : Call) → Left p (place p c)
-unfolding place checked admitted put flat high
-refused-left p c =
-    check-both (Left p) (ltb (c .side) 2 && ltb (c .clear) 4) (numbers d)
-    (λ t u. both (Left p) (ltb (length (p .boxes)) maxBoxes)
-    (λ w. both (Left p) (eq (d .height) zero+)
-    (λ x. both (Left p) (near (askOf p d) (s .inset) (s .y)) (λ z. tt) (λ z. refl))
-    (λ x. both (Left p) (near (askOf p d) (s .inset) (make (askOf p d) (p .bands) s .y)) (λ z. both (Left p) (leb (length (make (askOf p d) (p .bands) s .bands)) maxBands) (λ z. tt) (λ z. refl)) (λ z. refl)))
-    (λ w. refl))
-    (λ n. refl)
-  where
-    d : Call
-    d = cleaned c
-
-    s : Spot
-    s = spotOf p d
+refused-left p c = place-ways (Left p) p c (λ n. refl) tt tt
 
 pub page-placed : (p : FloatContext) (c : Call) → pageOf (placeOf p c .page) ≡ place (pageOf p) c .page
 unfolding placeOf

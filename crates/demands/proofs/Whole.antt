@@ -14,7 +14,7 @@ use lib.ListN.{length, getD, length-append}
 use lib.Seq.{getD-append-seam}
 use Rattle.f32_laws.specs.Numbers.{zero+}
 use Rattle.f32_laws.proofs.Tests.{both}
-use Rattle.f32_laws.proofs.Keys.{lt→key, key→le}
+use Rattle.f32_laws.proofs.Keys.{le→key, lt→key, key→le}
 use Rattle.float.specs.declared.Bottom.{Bottom}
 use Rattle.float.specs.declared.Clear.{Clear}
 use Rattle.float.specs.declared.Done.{Done}
@@ -31,13 +31,16 @@ use Rattle.float.specs.Bands.{onSide, other, none, firstBelow}
 use Rattle.float.specs.Page.{Kept, Page, fresh, noBox, maxBands, maxBoxes}
 use Rattle.float.specs.Clear.{clearedPast}
 use Rattle.float.specs.Place.{Call, cleaned, numbers, Result, lowest, firstOf, firstAllowed, askOf, spotOf, Made, make, keep, recorded, boxOf, counted, xOf, refuse, near, high, flat, put, admitted, checked, place, widthCheck, withWidth, ifDone, setWidth}
-use Rattle.demands.specs.Runs.{Each, Pairs, Accepted, boxIn, lastInset, noted, box, handed, F32, containingLead}
+use Rattle.demands.specs.Runs.{Each, Pairs, Accepted, boxIn, lastInset, noted, box, handed, F32, containingLead, xFrom, LowEnough}
 use Rattle.demands.proofs.Laws.{k, Val, Ins, on-either, ins-zero, ins-val, sum-val, sum-ins, sum-grows}
 use Rattle.demands.proofs.Chain.{Chain, chain-at, chain-mark, length-mark}
 use Rattle.demands.proofs.Heights.{Grows, grows-refl, grows-trans, grows-mark}
-use Rattle.demands.proofs.Seek.{Falls, Asked, Count, no-count, Found, search-law, first-le, first-ge, first-end, first-far}
+use Rattle.demands.proofs.First.{first-end, first-le, first-ge, first-far}
+use Rattle.demands.proofs.Splits.{Taken, start-in}
+use Rattle.demands.proofs.Leads.{search-leads}
+use Rattle.demands.proofs.Seek.{Falls, Asked, Count, no-count, Found, search-law}
 use Rattle.demands.proofs.Make.{MadeOk, make-ok}
-use Rattle.demands.proofs.Input.{Known, known, check-both, plus-fits, cleaned-fits, asked, bottomOn, BottomIs, AtMost, lower-is, counted-is, lowest-is, larger-val, ceiling-keeps, ceiling-takes, lowest-over}
+use Rattle.demands.proofs.Input.{Known, known, check-both, plus-fits, cleaned-fits, asked, bottomOn, BottomIs, AtMost, lower-is, counted-is, lowest-is, larger-val, ceiling-keeps, ceiling-takes, lowest-over, low-enough}
 use Rattle.demands.proofs.Lists.{each-append, pairs-append, each-map}
 
 -- ---- the invariant
@@ -65,6 +68,7 @@ pub record Inv (p : Page) (g : List Accepted) : Type 0 where
   pub tops : Each (Under (p .ceiling)) g
   pub rises : Pairs (λ a b. T (le (a .y) (b .y))) g
   pub leads : Each (λ a. T (le (containingLead a) (a .inset))) g
+  pub answers : Each (λ a. a .x ≡ xFrom (p .width) a) g
   pub bottom : (r : FloatDirection) → BottomIs Val (bottomOn r p)
   pub ceiling : BottomIs Val (p .ceiling)
 
@@ -83,23 +87,23 @@ fresh-inv = record {
   ceiling = tt;
   tops = tt;
   leads = tt;
+  answers = tt;
   rises = tt;
 }
 
--- the steps of an answer are at most 2n
-abbrev pub StepsTo : ℕ → PlaceAnswer → Type 0
-StepsTo n (PlaceAnswer.At x y s) = s ≤ n + n
-StepsTo n (PlaceAnswer.Refused m) = Unit {0}
+-- the y of an answer is low enough
+abbrev pub Lies : Page → Call → PlaceAnswer → Type 0
+Lies p c (PlaceAnswer.At x y s) = LowEnough p c y
+Lies p c (PlaceAnswer.Refused m) = Unit {0}
 
 -- what one placement does to a page and its log
 pub record Step (p : Page) (g : List Accepted) (c : Call) (r : Result) : Type 0 where
   pub inv : Inv (r .page) (noted (r .answer) c (r .page) g)
   pub grows : Grows (p .bands) (r .page .bands)
-  pub more : length (r .page .bands) ≤ length (p .bands) + 2
-  pub steps : StepsTo (length (p .bands)) (r .answer)
+  pub lies : Lies p c (r .answer)
 
 refuse-ok : (p : Page) (g : List Accepted) (c : Call) (n : Refusal) → Inv p g → Step p g c (refuse p n)
-refuse-ok p g c n v = record { inv = v; grows = grows-refl (p .bands); more = omega arith; steps = tt }
+refuse-ok p g c n v = record { inv = v; grows = grows-refl (p .bands); lies = tt }
 
 -- ---- the two sides
 sides : (q r : FloatDirection) (f : ℕ) (l : List Segment) → Falls q f l ⊎ Falls (other q) f l → Falls r f l ⊎ Falls (other r) f l
@@ -120,12 +124,24 @@ last-inset p a i y =
     let n : length (p .boxes ++ boxOf a i y ∷ []) - 1 ≡ length (p .boxes) = omega (arith, length-append (p .boxes) (boxOf a i y ∷ [])) in
     ap (λ (j : ℕ). getD (p .boxes ++ boxOf a i y ∷ []) j noBox .«x_inset») n ∙ ap (λ (b : PlacedFloatedBox). b .«x_inset») (getD-append-seam (p .boxes) (boxOf a i y) [] noBox)
 
+-- the page keeps the box that is noted
+box-noted : (p : Page) (c : Call) (i x y : Float) → boxOf (askOf p c) i y ≡ boxIn (record { call = c; x = x; y = y; inset = i })
+box-noted p c i x y = refl
+
+-- x by side, as it is answered
+x-noted : (p : Page) (c : Call) (i y : Float) → xOf (askOf p c) i ≡ xFrom (p .width) (record { call = c; x = xOf (askOf p c) i; y = y; inset = i })
+x-noted p c i y = refl
+
+-- rule 1: the lead inset that is asked for is the call's own
+in-container : (p : Page) (c : Call) (i x y : Float) → T (le (askOf p c .«cb_lead») i) → T (le (containingLead (record { call = c; x = x; y = y; inset = i })) i)
+in-container p c i x y h = h
+
 module _ (p : Page) (g : List Accepted) (c : Call) (a : Ask) (i x y : Float) (v : Inv p g) (q : Asked a) (w : Val y) (b : T (inReach (add binary32 y (a .height)))) (n : length (p .boxes) < maxBoxes) (h : (z : Float) → AtMost z (p .ceiling) → k z ≤ k y) where
   bot : Val (add binary32 y (a .height))
   bot = sum-val w (q .height) b
 
-  counted-as : (e : Accepted) → e .y ≡ y → boxOf a i y ≡ boxIn e → T (le (containingLead e) (e .inset)) → Inv (counted p a i y) (g ++ e ∷ [])
-  counted-as e m o u = record {
+  counted-as : (e : Accepted) → e .y ≡ y → boxOf a i y ≡ boxIn e → T (le (containingLead e) (e .inset)) → e .x ≡ xFrom (p .width) e → Inv (counted p a i y) (g ++ e ∷ [])
+  counted-as e m o u r = record {
     width = v .width;
     chain = v .chain;
     count = v .count;
@@ -139,6 +155,7 @@ module _ (p : Page) (g : List Accepted) (c : Call) (a : Ask) (i x y : Float) (v 
         (each-map (Under (p .ceiling)) _ g (λ d u. record { val = u .val; under = ceiling-keeps (p .ceiling) (d .y) y (v .ceiling) w (u .under) }) (v .tops))
         (record { val = ew; under = ceiling-takes (p .ceiling) (e .y) y (v .ceiling) w (omega (arith, ap k m)) });
     leads = each-append (λ d. T (le (containingLead d) (d .inset))) g e (v .leads) u;
+    answers = each-append (λ d. d .x ≡ xFrom (p .width) d) g e (v .answers) r;
     rises = pairs-append (λ d d'. T (le (d .y) (d' .y))) g e (v .rises) (each-map (Under (p .ceiling)) (λ d. T (le (d .y) (e .y))) g (λ d u. key→le (u .val .num) (ew .num) (omega (arith, ap k m, h (d .y) (u .under)))) (v .tops));
     ceiling = lower-is Val larger-val (p .ceiling) (Bottom.At y) (v .ceiling) w;
   }
@@ -146,11 +163,14 @@ module _ (p : Page) (g : List Accepted) (c : Call) (a : Ask) (i x y : Float) (v 
       ew : Val (e .y)
       ew = subst Val (sym m) w
 
-  counted-ok : boxOf a i y ≡ boxIn (record { call = c; x = x; y = y; inset = i }) → T (le (containingLead (record { call = c; x = x; y = y; inset = i })) i) → Inv (counted p a i y) (g ++ record { call = c; x = x; y = y; inset = lastInset (counted p a i y) } ∷ [])
-  counted-ok o u = subst (λ (t : Float). Inv (counted p a i y) (g ++ record { call = c; x = x; y = y; inset = t } ∷ [])) (sym (last-inset p a i y)) (counted-as (record { call = c; x = x; y = y; inset = i }) refl o u)
+  abbrev entry : Float → Accepted
+  entry t = record { call = c; x = x; y = y; inset = t }
+
+  counted-ok : boxOf a i y ≡ boxIn (entry i) → T (le (containingLead (entry i)) i) → x ≡ xFrom (p .width) (entry i) → Inv (counted p a i y) (g ++ entry (lastInset (counted p a i y)) ∷ [])
+  counted-ok o u r = subst (λ (t : Float). Inv (counted p a i y) (g ++ entry t ∷ [])) (sym (last-inset p a i y)) (counted-as (entry i) refl o u r)
 
 -- ---- a box is recorded
-module _ (p : Page) (g : List Accepted) (a : Ask) (i : Float) (m : Made) (v : Inv p g) (q : Asked a) (w : Ins i) (b : T (inReach (add binary32 i (a .width)))) (n : length (m .bands) ≤ maxBands) (D : Type 0) (o : MadeOk (p .bands) a (firstOf p) i D 2 m) where
+module _ (p : Page) (g : List Accepted) (a : Ask) (i : Float) (m : Made) (v : Inv p g) (q : Asked a) (w : Ins i) (b : T (inReach (add binary32 i (a .width)))) (n : length (m .bands) ≤ maxBands) (D : Type 0) (o : MadeOk (p .bands) a (firstOf p) i D m) where
   edge : Ins (add binary32 i (a .width))
   edge = sum-ins w (q .width) b
 
@@ -162,9 +182,6 @@ module _ (p : Page) (g : List Accepted) (a : Ask) (i : Float) (m : Made) (v : In
 
   recorded-grows : Grows (p .bands) (recorded p a i m .bands)
   recorded-grows = grows-trans (p .bands) (m .bands) _ (o .grows) (grows-mark _ _ (m .bands) _ _ (λ j u x y. omega (arith, wider, o .covers j u (omega (arith, o .order)) y)))
-
-  recorded-more : length (recorded p a i m .bands) ≤ length (p .bands) + 2
-  recorded-more = omega (arith, same-length, o .more)
 
   kept-ok : (x : Kept) → x .first ≤ x .past → keep x (m .start) (m .end) .first ≤ keep x (m .start) (m .end) .past
   kept-ok x h = omega (arith, o .order)
@@ -183,6 +200,7 @@ module _ (p : Page) (g : List Accepted) (a : Ask) (i : Float) (m : Made) (v : In
     ceiling = v .ceiling;
     tops = v .tops;
     leads = v .leads;
+    answers = v .answers;
     rises = v .rises;
   }
     where
@@ -193,17 +211,16 @@ module _ (p : Page) (g : List Accepted) (a : Ask) (i : Float) (m : Made) (v : In
       K x = x .first ≤ x .past
 
 -- ---- a placement whose input is in order
-module _ (p : Page) (g : List Accepted) (c : Call) (y0 : Float) (s : Spot) (v : Inv p g) (q : Asked (askOf p c)) (h : (z : Float) → AtMost z (p .ceiling) → k z ≤ k y0) (n : length (p .boxes) < maxBoxes) (H : Count (p .bands)) (f : Found (p .bands) (askOf p c) (firstOf p) y0 H s) where
+module _ (p : Page) (g : List Accepted) (c : Call) (s : Spot) (v : Inv p g) (q : Asked (askOf p c)) (h : (z : Float) → AtMost z (p .ceiling) → k z ≤ k (lowest p c)) (e : (y : Float) → Val y → k (lowest p c) ≤ k y → LowEnough p c y) (n : length (p .boxes) < maxBoxes) (H : Count (p .bands)) (f : Found (p .bands) (askOf p c) (firstOf p) (lowest p c) H s) (r : T (le (askOf p c .«cb_lead») (s .inset))) where
   put-ok : Step p g c (put p (askOf p c) s)
   unfolding put flat high
   put-ok =
       both (Step p g c) (eq (c .height) zero+)
       (λ t. both (Step p g c) (near a (s .inset) (s .y))
       (λ u. record {
-        inv = counted-ok p g c a (s .inset) (xOf a (s .inset)) (s .y) v q (f .y) (and-l (inReach (add binary32 (s .y) (a .height))) (inReach (add binary32 (s .inset) (a .width))) u) n (λ z o. omega (arith, f .low, h z o)) refl lead;
+        inv = counted-ok p g c a (s .inset) (xOf a (s .inset)) (s .y) v q (f .y) (and-l (inReach (add binary32 (s .y) (a .height))) (inReach (add binary32 (s .inset) (a .width))) u) n (λ z o. omega (arith, f .low, h z o)) (box-noted p c (s .inset) (xOf a (s .inset)) (s .y)) (in-container p c (s .inset) (xOf a (s .inset)) (s .y) r) (x-noted p c (s .inset) (s .y));
         grows = grows-refl (p .bands);
-        more = omega arith;
-        steps = f .steps;
+        lies = e (s .y) (f .y) (f .low);
       })
       (λ u. refuse-ok p g c Refusal.TooFar v))
       (λ t. both (Step p g c) (near a (s .inset) (m .y))
@@ -212,10 +229,9 @@ module _ (p : Page) (g : List Accepted) (c : Call) (y0 : Float) (s : Spot) (v : 
       let o = d .1 x in
       both (Step p g c) (leb (length (m .bands)) maxBands)
       (λ w. let l = leb→le (length (m .bands)) maxBands w in record {
-        inv = counted-ok (recorded p a (s .inset) m) g c a (s .inset) (xOf a (s .inset)) (m .y) (recorded-ok p g a (s .inset) m v q (f .inset) z l D o) q (d .0 .0) x n (λ z o. omega (arith, f .low, d .0 .1, h z o)) refl lead;
+        inv = counted-ok (recorded p a (s .inset) m) g c a (s .inset) (xOf a (s .inset)) (m .y) (recorded-ok p g a (s .inset) m v q (f .inset) z l D o) q (d .0 .0) x n (λ z o. omega (arith, f .low, d .0 .1, h z o)) (box-noted p c (s .inset) (xOf a (s .inset)) (m .y)) (in-container p c (s .inset) (xOf a (s .inset)) (m .y) r) (x-noted p c (s .inset) (m .y));
         grows = recorded-grows p g a (s .inset) m v q (f .inset) z l D o;
-        more = recorded-more p g a (s .inset) m v q (f .inset) z l D o;
-        steps = f .steps;
+        lies = e (m .y) (d .0 .0) (omega (arith, f .low, d .0 .1));
       })
       (λ w. refuse-ok p g c Refusal.BandsFull v))
       (λ u. refuse-ok p g c Refusal.TooFar v))
@@ -223,17 +239,14 @@ module _ (p : Page) (g : List Accepted) (c : Call) (y0 : Float) (s : Spot) (v : 
       a : Ask
       a = askOf p c
 
-      lead : T (le (a .«cb_lead») (s .inset))
-      lead = key→le (q .cbLead .num) (f .inset .num) (f .cb)
-
       m : Made
       m = make a (p .bands) s
 
       D : Type 0
       D = s .end < length (p .bands) → k (add binary32 (s .y) (a .height)) ≤ k (getD (p .bands) (s .end) none .end)
 
-      d : (Val (m .y) × (k (s .y) ≤ k (m .y))) × (T (inReach (add binary32 (m .y) (a .height))) → MadeOk (p .bands) a (firstOf p) (s .inset) D 2 m)
-      d = make-ok (p .bands) a (firstOf p) y0 s (v .chain) q (v .falls (a .side)) (v .first) H f
+      d : (Val (m .y) × (k (s .y) ≤ k (m .y))) × (T (inReach (add binary32 (m .y) (a .height))) → MadeOk (p .bands) a (firstOf p) (s .inset) D m)
+      d = make-ok (p .bands) a (firstOf p) (lowest p c) s (v .chain) q (v .falls (a .side)) (v .first) H f (le→key (q .cbLead .num) (f .inset .num) r)
 
 -- ---- what the search finds on such a page
 module _ (p : Page) (g : List Accepted) (c : Call) (v : Inv p g) (n : Each Known (numbers c)) where
@@ -251,7 +264,7 @@ module _ (p : Page) (g : List Accepted) (c : Call) (v : Inv p g) (n : Each Known
   unfolding spotOf
   spot-ok H o o' =
       search-law l (askOf p c) (firstOf p) y H (v .chain) (asked p c (v .width) n) o (firstBelow l m y) (go (decLe m (length l))) (first-le l m y) lowest-val o'
-      (λ h. lt→key (lowest-val .num) (chain-at (inf true) l (firstBelow l m y) (v .chain) h .end .num) (first-end l m y h))
+      (λ h. omega (arith, lt→key (lowest-val .num) (chain-at (inf true) l (firstBelow l m y) (v .chain) h .end .num) (first-end l m y h)))
       (v .falls (sideOf (c .side)))
     where
       l : List Segment
@@ -267,11 +280,19 @@ module _ (p : Page) (g : List Accepted) (c : Call) (v : Inv p g) (n : Each Known
       go (yes d) = omega (arith, first-ge l m y d, allowed-ok (clearOf (c .clear)))
       go (no d) = omega (arith, first-far l m y (omega arith), v .first)
 
+  pub spot-leads : T (le (askOf p c .«cb_lead») (spotOf p c .inset))
+  unfolding spotOf
+  spot-leads = search-leads (p .bands) (askOf p c) (v .chain) (asked p c (v .width) n .cbLead .num) _ _ (first-le (p .bands) _ _)
+
+  pub spot-in : Taken (p .bands) (askOf p c) (v .chain) (spotOf p c)
+  unfolding spotOf
+  spot-in = start-in (p .bands) (askOf p c) (v .chain) _ _ (first-le (p .bands) _ _) (lowest-val .num) (first-end (p .bands) _ _)
+
 admitted-ok : (p : Page) (g : List Accepted) (c : Call) → Inv p g → Each Known (numbers c) → Step p g c (admitted p c)
 unfolding admitted
 admitted-ok p g c v n =
     both (Step p g c) (ltb (length (p .boxes)) maxBoxes)
-    (λ w. put-ok p g c (lowest p c) (spotOf p c) v (asked p c (v .width) n) (lowest-over p c (n .1 .1 .0) (v .ceiling) (v .bottom)) (ltb→lt (length (p .boxes)) maxBoxes w) (no-count (p .bands)) (spot-ok p g c v n (no-count (p .bands)) tt tt))
+    (λ w. put-ok p g c (spotOf p c) v (asked p c (v .width) n) (lowest-over p c (n .1 .1 .0) (v .ceiling) (v .bottom)) (low-enough p c (n .1 .1 .0) (v .ceiling) (v .bottom)) (ltb→lt (length (p .boxes)) maxBoxes w) (no-count (p .bands)) (spot-ok p g c v n (no-count (p .bands)) tt tt) (spot-leads p g c v n))
     (λ w. refuse-ok p g c Refusal.BoxesFull v)
 
 -- one placement
@@ -280,7 +301,7 @@ unfolding place checked
 place-ok p g c v f =
     check-both (Step p g (cleaned c)) (ltb (c .side) 2 && ltb (c .clear) 4) (numbers (cleaned c))
     (λ t u. admitted-ok p g (cleaned c) v (known (numbers (cleaned c)) (cleaned-fits c f) t u))
-    (λ n. refuse-ok p g (cleaned c) n v)
+    (λ n o. refuse-ok p g (cleaned c) n v)
 
 -- ---- the width: set on a page with no box, or refused
 pub width-both : (P : Done → Type 0) (bs : List PlacedFloatedBox) (w : Float) → F32 w → (Ins w → T (allAllowed (size w ∷ [])) → length bs ≡ 0 → P Done.Accepted) → ((n : Refusal) → P (Done.Refused n)) → P (widthCheck bs w)
@@ -288,7 +309,12 @@ unfolding widthCheck
 width-both P bs w f p q =
     check-both P true (size w ∷ [])
     (λ t u. both P (eqb (length bs) 0) (λ x. p (known (size w ∷ []) (f, tt) t u .0) u (eqb→eq (length bs) 0 x)) (λ x. q Refusal.WidthFixed))
-    q
+    (λ n o. q n)
+
+-- with no box there is no accepted placement
+none-accepted : (P : Accepted → Type 0) (g : List Accepted) → length (map boxIn g) ≡ 0 → Each P g
+none-accepted P [] e = tt
+none-accepted P (a ∷ g) e = absurd (not-suc-le-zero {n = 0} (omega arith))
 
 pub wide-ok : (p : Page) (g : List Accepted) (w : Float) → Inv p g → F32 w → Inv (setWidth p w) g × (setWidth p w .bands ≡ p .bands)
 unfolding setWidth
@@ -308,6 +334,7 @@ wide-ok p g w v f =
         ceiling = v .ceiling;
         tops = v .tops;
         leads = v .leads;
+        answers = none-accepted (λ a. a .x ≡ xFrom (plusZero w) a) g (ap length (sym (v .boxes)) ∙ n);
         rises = v .rises;
       },
       refl,

@@ -24,7 +24,7 @@ use Rattle.float.specs.Place.{Call, cleaned, numbers, Result, lowest, askOf, sp
 use Rattle.demands.specs.Runs.{Each, Accepted, boxIn, noted, box, handed, F32, Whole64}
 use Rattle.demands.proofs.Laws.{k, B, Ins, on-either}
 use Rattle.demands.proofs.Input.{most-num, least-num, Known, known, check-both, plus-fits, cleaned-fits, asked, BottomIs, lowest-is}
-use Rattle.demands.proofs.Whole.{Inv, fresh-inv, Step, spot-ok, place-ok, width-both, wide-ok}
+use Rattle.demands.proofs.Whole.{Inv, fresh-inv, Step, spot-ok, spot-leads, place-ok, width-both, wide-ok}
 use Rattle.demands.proofs.Exact.{g, Q, q-zero, cancel, Ask64}
 use Rattle.demands.proofs.Bands64.{count64}
 use Rattle.demands.proofs.Apart.{Inv64, larger64, put64}
@@ -66,7 +66,7 @@ module _ (p : Page) (l : List Accepted) (c : Call) (v : Inv64 p l) (n : Each Kno
   unfolding admitted
   admitted64 =
       both (λ (r : Result). Step p l c r → Inv64 (r .page) (noted (r .answer) c (r .page) l)) (ltb (length (p .boxes)) maxBoxes)
-      (λ w. put64 p l c v ask64 (lowest p c) (spotOf p c) (spot-ok p l c (v .inv) n (count64 (p .bands) (v .inv .chain) (v .bands)) (ask64 .cbLead) (lowest-is Q larger64 p c (q .1 .1 .0) (v .ceiling) (v .bottom))))
+      (λ w. put64 p l c v ask64 (lowest p c) (spotOf p c) (spot-ok p l c (v .inv) n (count64 (p .bands) (v .inv .chain) (v .bands)) (ask64 .cbLead) (lowest-is Q larger64 p c (q .1 .1 .0) (v .ceiling) (v .bottom))) (spot-leads p l c (v .inv) n))
       (λ w st. v)
 
 pub place64 : (p : Page) (l : List Accepted) (c : Call) → Inv64 p l → Each F32 (handed (box c)) → Each Whole64 (handed (box c)) → Inv64 (place p c .page) (noted (place p c .answer) (cleaned c) (place p c .page) l)
@@ -79,7 +79,7 @@ place64 p l c v f s = go (place-ok p l c (v .inv) f)
     go : Step p l d (place p c) → Inv64 (place p c .page) (noted (place p c .answer) d (place p c .page) l)
     go = check-both (λ (r : Result). Step p l d r → Inv64 (r .page) (noted (r .answer) d (r .page) l)) (ltb (c .side) 2 && ltb (c .clear) 4) (numbers d)
         (λ t u. let n = known (numbers d) (cleaned-fits c f) t u in admitted64 p l d v n (known64 (numbers d) (cleaned-fits c f) s u n))
-        (λ n st. v)
+        (λ n o st. v)
 
 -- ---- the width
 pub wide64 : (p : Page) (l : List Accepted) (w : Float) → Inv64 p l → F32 w → Whole64 w → Inv64 (setWidth p w) l

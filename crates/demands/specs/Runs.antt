@@ -1,25 +1,33 @@
 -- Any sequence of calls from a fresh page, the page after it and the placements that it had accepted; and the words of the promises. Definitions only.
-use Prim.Native.Nat.{ℕ, _-_, _<_}
+use mathlib.Core.Logic.{_⊎_}
+use Prim.Native.Nat.{ℕ, suc, _-_, _^_, _≤_, _<_}
 use mathlib.Core.Path.{_≡_}
 use mathlib.Core.Bool.{Bool, true, false, _&&_, _||_}
 use mathlib.Core.List.{List, [], _∷_, _++_}
 use lib.Dec.{T}
+use lib.IntN.{ℤ, natAbs, _+ℤ_}
 use lib.Ieee.{Float, binary32, fits as fits-in, add, sub, lt, le, eq}
 use lib.ListN.{length, getD}
 use Rattle.f32_laws.specs.Numbers.{larger, zero+, is64}
+use Rattle.f32_laws.specs.Sixty.{in64}
+use Rattle.float.specs.declared.BandNumber.{BandNumber}
 use Rattle.float.specs.declared.Bottom.{Bottom}
+use Rattle.float.specs.declared.ContentSlot.{ContentSlot}
 use Rattle.float.specs.declared.FloatContext.{FloatContext}
 use Rattle.float.specs.declared.FloatDirection.{FloatDirection}
 use Rattle.float.specs.declared.PlaceAnswer.{PlaceAnswer}
 use Rattle.float.specs.declared.PlacedFloatedBox.{PlacedFloatedBox}
 use Rattle.float.specs.declared.Segment.{Segment}
 use Rattle.float.specs.declared.fit.Ask.{Ask}
+use Rattle.float.specs.declared.search.Spot.{Spot}
 use Rattle.float.specs.Numbers.{most, least, plusZero, within}
-use Rattle.float.specs.Refuse.{sideOf}
+use Rattle.float.specs.Refuse.{sideOf, clearOf}
 use Rattle.float.specs.Bands.{onSide, lead, none, splitAt}
 use Rattle.float.specs.Page.{Page, pageOf, freshContext, noBox}
+use Rattle.float.specs.Clear.{cleared}
 use Rattle.float.specs.Fit.{placedAt}
-use Rattle.float.specs.Place.{Call, cleaned, inside, placeOf, widthOf}
+use Rattle.float.specs.Place.{Call, cleaned, walked, startedAt, make, placeOf, widthOf}
+use Rattle.float.specs.Slot.{ContentCall}
 
 -- ---- lists
 
@@ -131,11 +139,22 @@ abbrev pub EdgeToEdge : Float → List Segment → Type 0
 EdgeToEdge x [] = Unit {0}
 EdgeToEdge x (b ∷ bs) = (b .start ≡ x) × T (le (b .start) (b .end)) × EdgeToEdge (b .end) bs
 
--- bands that come of l by splits strictly inside a band, and by adding at the end
-pub data Parted (l : List Segment) : List Segment → Type 0 where
-  as-is : Parted l l
-  split : {m : List Segment} (i : ℕ) (y : Float) → Parted l m → i < length m → T (inside (getD m i none) y) → Parted l (splitAt m i y)
-  added : {m : List Segment} (b : Segment) → Parted l m → Parted l (m ++ b ∷ [])
+-- what the crate's `assert!` asks of a split: y is strictly inside the band
+abbrev pub StrictlyIn : Segment → Float → Type 0
+StrictlyIn b y = T (lt (b .start) y) × T (lt y (b .end))
+
+-- the start band, found at p, is left whole, or split at y strictly inside it
+abbrev pub StartSplit : Ask → List Segment → Spot → Type 0
+StartSplit a l p =
+    (make a l p ≡ startedAt a l (p .start) (p .end) (p .y))
+    ⊎ (StrictlyIn (getD l (p .start) none) (p .y) × (make a l p ≡ startedAt a (splitAt l (p .start) (p .y)) (suc (p .start)) (suc (p .end)) (p .y)))
+
+-- and of the bands as they then stand, the end band at the bottom
+abbrev pub EndSplit : Ask → List Segment → ℕ → ℕ → Float → Type 0
+EndSplit a l s e y =
+    let b = add binary32 y (a .height) in
+    let i = walked l s b e in
+    (startedAt a l s e y .bands ≡ l) ⊎ (StrictlyIn (getD l i none) b × (startedAt a l s e y .bands ≡ splitAt l i b))
 
 -- ---- accepted placements
 
@@ -150,12 +169,36 @@ containingLead a = onSide (sideIn a) (a .call .left) (a .call .right)
 abbrev pub containingTrail : Accepted → Float
 containingTrail a = onSide (sideIn a) (a .call .right) (a .call .left)
 
--- the far edges; on whole 64ths within the limits these sums are exact
+-- x by side: a left box's inset, a right box's page width - inset - width, rounded left to right
+abbrev pub xFrom : Float → Accepted → Float
+xFrom w a = onSide (sideIn a) (a .inset) (sub binary32 (sub binary32 w (a .inset)) (a .call .width))
+
+-- the far edges; the last as an inset
 abbrev pub bottom : Accepted → Float
 bottom a = add binary32 (a .y) (a .call .height)
 
 abbrev pub rightEdge : Accepted → Float
 rightEdge a = add binary32 (a .x) (a .call .width)
+
+abbrev pub farInset : Accepted → Float
+farInset a = add binary32 (a .inset) (a .call .width)
+
+-- y is at or below a kept height, if there is one
+abbrev pub AtOrBelow : Bottom → Float → Type 0
+AtOrBelow Bottom.None y = Unit {0}
+AtOrBelow (Bottom.At x) y = T (le x y)
+
+-- y is at or below min_y, the page's ceiling and the bottoms that the call clears
+abbrev pub LowEnough : Page → Call → Float → Type 0
+LowEnough p c y = T (le (c .minY) y) × AtOrBelow (p .ceiling) y × AtOrBelow (cleared p (clearOf (c .clear))) y
+
+-- x is j / 64, y is k / 64 and s is (j + k) / 64, each held exactly: the sum s of x and y is not rounded
+pub record ExactSum (x y s : Float) : Type 0 where
+  pub j : ℤ
+  pub k : ℤ
+  pub first : (x ≡ in64 binary32 j) × (natAbs j ≤ 2 ^ 24)
+  pub second : (y ≡ in64 binary32 k) × (natAbs k ≤ 2 ^ 24)
+  pub sum : (s ≡ in64 binary32 (j +ℤ k)) × (natAbs (j +ℤ k) ≤ 2 ^ 24)
 
 -- width and height are above zero
 abbrev pub sized : Accepted → Bool
@@ -167,6 +210,18 @@ shareHeight a b = lt (a .y) (bottom b) && lt (b .y) (bottom a)
 -- the rectangles that the answers give have a point inside in common
 abbrev pub overlap : Accepted → Accepted → Bool
 overlap a b = shareHeight a b && lt (a .x) (rightEdge b) && lt (b .x) (rightEdge a)
+
+-- ---- a content question
+
+-- at the height h, with insets 0, no clear and after none
+abbrev pub contentAt : Float → ContentCall
+contentAt h = record { minY = h; left = zero+; right = zero+; clear = 0; after = BandNumber.None }
+
+-- the slot lies at the height y, between the insets that stand there
+pub record Between (p : Page) (y : Float) (s : ContentSlot) : Type 0 where
+  pub at : s .y ≡ y
+  pub left : s .x ≡ insetAt FloatDirection.Left y (p .bands)
+  pub room : s .width ≡ sub binary32 (sub binary32 (p .width) (insetAt FloatDirection.Left y (p .bands))) (insetAt FloatDirection.Right y (p .bands))
 
 -- ---- the fit test with 0.001 left out
 
