@@ -9,4 +9,5 @@ pub mod Place
 pub mod Settle
 pub mod Slot
 pub mod Calculator
+pub mod Answers
 pub mod Strip
