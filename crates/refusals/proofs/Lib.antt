@@ -1,0 +1,4 @@
+pub mod Decimals
+pub mod Three
+pub mod Outcome
+pub mod Exactly

@@ -1,0 +1,123 @@
+-- The paper's table "Numbered no", row by row, over every call that can be refused. Definitions only.
+use Prim.Native.Nat.{ℕ, zero, suc, _≤_, _<_}
+use mathlib.Core.Path.{_≡_}
+use mathlib.Core.Logic.{_⊎_, _≢_}
+use mathlib.Core.Bool.{Bool, true, false, not, cond}
+use mathlib.Core.List.{List, [], _∷_}
+use lib.Dec.{T}
+use lib.Ieee.{Float, nan, inf, binary32, add, lt, le, eq}
+use lib.ListN.{length}
+use Rattle.f32_laws.specs.Numbers.{zero+}
+use Rattle.float.specs.declared.AvailableSpace.{AvailableSpace}
+use Rattle.float.specs.declared.FloatDirection.{FloatDirection}
+use Rattle.float.specs.declared.FloatIntrinsicWidthCalculator.{FloatIntrinsicWidthCalculator}
+use Rattle.float.specs.Numbers.{most, least, farthest, plusZero, Given, size, offset, value}
+use Rattle.float.specs.Refuse.{sideOf, clearOf}
+use Rattle.float.specs.Page.{Page}
+use Rattle.float.specs.Place.{Call, cleaned, askOf, spotOf, Made, make}
+use Rattle.float.specs.Slot.{ContentCall, BfcCall}
+use Rattle.float.specs.Calculator.{zeroed, plusOn}
+use Rattle.tape.specs.declared.step.Calculator.{Calculator}
+use Rattle.tape.specs.Tape.{linesOf}
+
+-- what can be asked, as it is handed in: of a page, of the calculator, or the lines of a tape with the room lent for them
+pub data Asked : Type 0 where
+  width active : Float → Asked
+  box : Call → Asked
+  content : ContentCall → Asked
+  bfc : BfcCall → Asked
+  threshold : ℕ → Asked
+  start : ℕ → Float → Asked
+  add-box : Float → ℕ → ℕ → Asked
+  result : Asked
+  lines : List ℕ → List ℕ → Asked
+
+-- its codes, and its numbers by their rows of the table of limits: a size or an offset
+pub data Code : Type 0 where
+  side clear direction mode : ℕ → Code
+
+abbrev pub codes : Asked → List Code
+codes (width w) = []
+codes (active y) = []
+codes (box c) = side (c .side) ∷ clear (c .clear) ∷ []
+codes (content c) = clear (c .clear) ∷ []
+codes (bfc c) = direction (c .direction) ∷ clear (c .clear) ∷ []
+codes (threshold k) = clear k ∷ []
+codes (start m w) = mode m ∷ []
+codes (add-box w s k) = side s ∷ clear k ∷ []
+codes result = []
+codes (lines t a) = []
+
+abbrev pub numbers : Asked → List Given
+numbers (width w) = size w ∷ []
+numbers (active y) = offset y ∷ []
+numbers (box c) = size (c .width) ∷ size (c .height) ∷ offset (c .minY) ∷ size (c .left) ∷ size (c .right) ∷ []
+numbers (content c) = offset (c .minY) ∷ size (c .left) ∷ size (c .right) ∷ []
+numbers (bfc c) = offset (c .minY) ∷ size (c .left) ∷ size (c .right) ∷ offset (c .leftMargin) ∷ offset (c .rightMargin) ∷ []
+numbers (threshold k) = []
+numbers (start zero w) = size w ∷ []
+numbers (start (suc m) w) = []
+numbers (add-box w s k) = size w ∷ []
+numbers result = []
+numbers (lines t a) = []
+
+-- sides 0 and 1, clear 0 to 3, direction 0 and 1, mode 0 to 2
+abbrev pub Unknown : Code → Type 0
+Unknown (side k) = 2 ≤ k
+Unknown (clear k) = 4 ≤ k
+Unknown (direction k) = 2 ≤ k
+Unknown (mode k) = 3 ≤ k
+
+abbrev pub NotFinite : Given → Type 0
+NotFinite g = (value g ≡ nan) ⊎ (value g ≡ inf true) ⊎ (value g ≡ inf false)
+
+abbrev pub Outside : Given → Type 0
+Outside (size x) = T (lt x zero+) ⊎ T (lt most x)
+Outside (offset x) = T (lt x least) ⊎ T (lt most x)
+
+-- x is not at most 131,072
+abbrev pub Passes : Float → Type 0
+Passes x = T (not (le x farthest))
+
+-- P holds of one in the list
+abbrev pub Some : {A : Type 0} → (A → Type 0) → List A → Type 0
+Some P [] = ⊥
+Some P (x ∷ xs) = P x ⊎ Some P xs
+
+-- what rules 1 to 7 give a box: y, and the bands; one of no height keeps the spot's y and needs no band
+abbrev pub hasHeight : Call → Bool
+hasHeight c = not (eq (cleaned c .height) zero+)
+
+abbrev pub madeOf : Page → Call → Made
+madeOf p c = make (askOf p (cleaned c)) (p .bands) (spotOf p (cleaned c))
+
+abbrev pub yOf : Page → Call → Float
+yOf p c = cond (hasHeight c) (madeOf p c .y) (spotOf p (cleaned c) .y)
+
+-- a side's sum after a box: zeroed if cleared, with the width added if it is the box's side
+abbrev pub sumOf : FloatDirection → Float → Float → ℕ → ℕ → Float
+sumOf t x w s k = plusOn (sideOf s) t (zeroed (clearOf k) t x) (plusZero w)
+
+abbrev pub sums : FloatIntrinsicWidthCalculator → Float → ℕ → ℕ → List Float
+sums c w s k =
+    let l = sumOf FloatDirection.Left (c .«left_sum») w s k in
+    let r = sumOf FloatDirection.Right (c .«right_sum») w s k in
+    l ∷ r ∷ add binary32 l r ∷ []
+
+-- the table: what is asked on the page p with the calculator q, and the numbers that apply
+pub data Applies (p : Page) (q : Calculator) : Asked → ℕ → Type 0 where
+  unknown-code : {a : Asked} → Some Unknown (codes a) → Applies p q a 1
+  not-finite : {a : Asked} → Some NotFinite (numbers a) → Applies p q a 2
+  out-of-limits : {a : Asked} → Some Outside (numbers a) → Applies p q a 3
+  width-fixed : {w : Float} → 0 < length (p .boxes) → Applies p q (width w) 4
+  boxes-full : {c : Call} → 64 ≤ length (p .boxes) → Applies p q (box c) 5
+  too-far : {c : Call} → Some Passes (add binary32 (yOf p c) (cleaned c .height) ∷ add binary32 (spotOf p (cleaned c) .inset) (cleaned c .width) ∷ []) → Applies p q (box c) 6
+  sums-too-far : {w : Float} {s k : ℕ} (c : FloatIntrinsicWidthCalculator) → q ≡ Calculator.One c → c .available ≢ AvailableSpace.MinContent → Some Passes (sums c w s k) → Applies p q (add-box w s k) 6
+  bands-full : {c : Call} → T (hasHeight c) → 96 < length (madeOf p c .bands) → Applies p q (box c) 7
+  none-to-add-to : {w : Float} {s k : ℕ} → q ≡ Calculator.None → Applies p q (add-box w s k) 8
+  none-to-ask : q ≡ Calculator.None → Applies p q result 8
+  no-room : {t a : List ℕ} → length a < length (linesOf t) → Applies p q (lines t a) 13
+
+-- of several, the lowest
+abbrev pub Lowest : (ℕ → Type 0) → ℕ → Type 0
+Lowest P n = P n × ((m : ℕ) → m < n → ¬ P m)
