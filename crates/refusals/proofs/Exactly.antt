@@ -1,12 +1,12 @@
 -- Refused exactly when: a call answers refusal n where row n of the paper's table applies to it and no lower one does, and only there. Each call's tests are walked in their order.
 use Prim.Native.Nat.{ℕ, zero, suc, _≤_, _<_}
 use native.Mathlib.Omega.{arith}
-use mathlib.Core.Path.{_≡_, refl, sym, ap, _∙_, subst}
-use mathlib.Core.Logic.{_⊎_, inl, inr, _↔_, _≢_}
+use mathlib.Core.Path.{_≡_, refl, sym, ap, subst}
+use mathlib.Core.Logic.{inl, _↔_, _≢_}
 use mathlib.Core.Bool.{Bool, true, false, not, _&&_, cond}
 use mathlib.Core.List.{List, [], _∷_, map}
-use lib.Dec.{T, ltb, leb, eqb, eqb→eq}
-use lib.IntN.{ℤ, pos, negℤ}
+use lib.Dec.{T, leb, eqb, eqb→eq}
+use lib.IntN.{pos, negℤ}
 use lib.Ieee.{Float, binary32, add, le, eq}
 use lib.ListN.{length}
 use Rattle.f32_laws.specs.Numbers.{zero+}
@@ -18,18 +18,17 @@ use Rattle.float.specs.declared.FloatDirection.{FloatDirection}
 use Rattle.float.specs.declared.FloatIntrinsicWidthCalculator.{FloatIntrinsicWidthCalculator}
 use Rattle.float.specs.declared.Refusal.{Refusal}
 use Rattle.float.specs.declared.refuse.Check.{Check}
-use Rattle.float.specs.declared.search.Spot.{Spot}
 use Rattle.float.specs.Numbers.{farthest, plusZero, inReach, allFinite, allAllowed}
 use Rattle.float.specs.Refuse.{numberOf, sideOf, clearOf, checkOf}
 use Rattle.float.specs.Answers.{Value, Said, refused, values, saidPlace, saidDone, saidContent, saidBfc, saidStarted, saidYesNo, saidThreshold}
 use Rattle.float.specs.Page.{Page, pageOf}
-use Rattle.float.specs.Place.{Call, cleaned, Result, askOf, spotOf, Made, make, near, high, flat, put, admitted, checked as checkedOf, place, placeOf, widthCheck, widthOf}
+use Rattle.float.specs.Place.{Call, cleaned, Result, askOf, spotOf, near, high, flat, put, admitted, checked as checkedOf, place, placeOf, widthCheck, widthOf}
 use Rattle.float.specs.Slot.{ContentCall, BfcCall, hasActiveFloats, clearedThreshold, content as contentOf, bfc as bfcOf}
-use Rattle.float.specs.Calculator.{calculatorOf, added, addedSums, addOf}
+use Rattle.float.specs.Calculator.{calculatorOf, zeroed, plusOn, added, addedSums, addOf}
 use Rattle.tape.specs.declared.step.Calculator.{Calculator}
 use Rattle.tape.specs.Lines.{refusedLine}
 use Rattle.tape.specs.Tape.{notAdded, startOf, addTo, resultLine, linesOf, returned}
-use Rattle.refusals.specs.Numbered.{Asked, codes, numbers, width, active, box, content, bfc, threshold, start, add-box, result, lines, Passes, Some, hasHeight, madeOf, yOf, sumOf, sums, Applies, unknown-code, not-finite, out-of-limits, width-fixed, boxes-full, too-far, sums-too-far, bands-full, none-to-add-to, none-to-ask, no-room, Lowest}
+use Rattle.refusals.specs.Numbered.{Asked, handed, width, active, box, content, bfc, threshold, start, add-box, result, lines, Passes, Some, hasHeight, madeOf, yOf, sums, Applies, unknown-code, not-finite, out-of-limits, width-fixed, boxes-full, too-far, sums-too-far, bands-full, none-to-add-to, none-to-ask, no-room, Lowest}
 use Rattle.refusals.specs.Answered.{saidReturned, refusal, Refuses}
 use Rattle.refusals.proofs.Decimals.{one-number}
 use Rattle.refusals.proofs.Three.{Fails, allKnown, plus, and-also, and-last, not-passed, not-below, not-above}
@@ -92,7 +91,7 @@ module _ {p : Page} {q : Calculator} where
 
   -- an answer that begins with the check of codes and numbers
   ask : {B : Type 0} (said : B → Said) (a : Asked) {x : B} {f : Refusal → B} → ((n : Refusal) → said (f n) ≡ refused (numberOf n)) → (Free (Applies p q a) 4 → Outcome (λ n. said x ≡ refused n) (Applies p q a))
-      → Outcome (λ n. said (elim (checkOf (allKnown (codes a)) (map plus (numbers a))) [ Check.Passed ↦ x | Check.Refused r ↦ f r ]) ≡ refused n) (Applies p q a)
+      → Outcome (λ n. said (elim (checkOf (allKnown (handed a .codes)) (map plus (handed a .numbers))) [ Check.Passed ↦ x | Check.Refused r ↦ f r ]) ≡ refused n) (Applies p q a)
   ask {B} said a {x} {f} e k = checked p q a (λ t n. said (elim t [ Check.Passed ↦ x | Check.Refused r ↦ f r ]) ≡ refused n) (λ n. subst (λ (z : Said). Says (λ m. z ≡ refused m) (numberOf n)) (sym (e n)) (says (numberOf n))) k
 
 -- ---- questions: rows 1 to 3 alone
@@ -230,10 +229,10 @@ module _ (p : FloatContext) (w : Float) (s k : ℕ) where
       (λ t g. accepted (add-box w s k) (λ n. not-refused n) (to-9 g))
     where
       l : Float
-      l = sumOf FloatDirection.Left (c .«left_sum») w s k
+      l = plusOn (sideOf s) FloatDirection.Left (zeroed (clearOf k) FloatDirection.Left (c .«left_sum»)) (plusZero w)
 
       r : Float
-      r = sumOf FloatDirection.Right (c .«right_sum») w s k
+      r = plusOn (sideOf s) FloatDirection.Right (zeroed (clearOf k) FloatDirection.Right (c .«right_sum»)) (plusZero w)
 
   added-exactly : (c : FloatIntrinsicWidthCalculator) (a : AvailableSpace) → c .available ≡ a → Free (Adds (Calculator.One c)) 4 → Outcome (λ n. saidDone (added c (plusZero w) (sideOf s) (clearOf k) a .answer) ≡ refused n) (Adds (Calculator.One c))
   unfolding added top

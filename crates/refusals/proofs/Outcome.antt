@@ -1,20 +1,19 @@
 -- A call whose tests are asked one after the other, lower numbers first, answers the lowest number that applies: what one test adds to that, and the check of codes and numbers.
-use Prim.Native.Nat.{ℕ, suc, _≤_, _<_}
+use Prim.Native.Nat.{ℕ, suc, _<_}
 use native.Mathlib.Omega.{arith}
 use native.Mathlib.Nat.{eq-or-lt-of-le}
-use mathlib.Core.Path.{_≡_, refl, sym, subst}
+use mathlib.Core.Path.{_≡_, sym, subst}
 use mathlib.Core.Logic.{_⊎_, inl, inr, _↔_}
-use mathlib.Core.Bool.{Bool, not, cond}
+use mathlib.Core.Bool.{Bool, cond}
 use mathlib.Core.List.{map}
 use lib.Dec.{T}
 use Rattle.f32_laws.proofs.Tests.{both}
 use Rattle.float.specs.declared.Refusal.{Refusal}
 use Rattle.float.specs.declared.refuse.Check.{Check}
-use Rattle.float.specs.Numbers.{allFinite, allAllowed}
 use Rattle.float.specs.Refuse.{numberOf, checkOf}
 use Rattle.float.specs.Page.{Page}
 use Rattle.tape.specs.declared.step.Calculator.{Calculator}
-use Rattle.refusals.specs.Numbered.{Asked, codes, numbers, Unknown, NotFinite, Outside, Some, Applies, unknown-code, not-finite, out-of-limits, Lowest}
+use Rattle.refusals.specs.Numbered.{Asked, handed, Unknown, NotFinite, Outside, Some, Applies, unknown-code, not-finite, out-of-limits, Lowest}
 use Rattle.refusals.proofs.Three.{Three, less, same, more, three, Fails, allKnown, known-all, plus, finite-all, inside-all}
 
 -- R m: refusal m is answered; it is n alone
@@ -53,13 +52,13 @@ tested R {A} {X} {b} {x} {y} n t i o f s k = both (λ z. Outcome (R z) A) b {x =
 
 -- rows 1 to 3, of every call
 module _ (p : Page) (q : Calculator) (a : Asked) where
-  row-1 : Applies p q a 1 → Some Unknown (codes a)
+  row-1 : Applies p q a 1 → Some Unknown (handed a .codes)
   row-1 (unknown-code h) = h
 
-  row-2 : Applies p q a 2 → Some NotFinite (numbers a)
+  row-2 : Applies p q a 2 → Some NotFinite (handed a .numbers)
   row-2 (not-finite h) = h
 
-  row-3 : Applies p q a 3 → Some Outside (numbers a)
+  row-3 : Applies p q a 3 → Some Outside (handed a .numbers)
   row-3 (out-of-limits h) = h
 
   row-0 : ¬ Applies p q a 0
@@ -68,10 +67,10 @@ module _ (p : Page) (q : Calculator) (a : Asked) where
   pub from-1 : Free (Applies p q a) 1
   from-1 = gap 0 row-0 (λ m l. absurd (omega arith))
 
-  pub checked : (R : Check → ℕ → Type 0) → ((n : Refusal) → Says (R (Check.Refused n)) (numberOf n)) → (Free (Applies p q a) 4 → Outcome (R Check.Passed) (Applies p q a)) → Outcome (R (checkOf (allKnown (codes a)) (map plus (numbers a)))) (Applies p q a)
+  pub checked : (R : Check → ℕ → Type 0) → ((n : Refusal) → Says (R (Check.Refused n)) (numberOf n)) → (Free (Applies p q a) 4 → Outcome (R Check.Passed) (Applies p q a)) → Outcome (R (checkOf (allKnown (handed a .codes)) (map plus (handed a .numbers)))) (Applies p q a)
   unfolding checkOf
   checked R s k =
-      tested R 1 (known-all (codes a)) unknown-code row-1 from-1 (s Refusal.UnknownCode)
-      (λ t f. tested R 2 (finite-all (numbers a)) not-finite row-2 f (s Refusal.NotFinite)
-      (λ t f. tested R 3 (inside-all (numbers a) t) out-of-limits row-3 f (s Refusal.OutOfLimits)
+      tested R 1 (known-all (handed a .codes)) unknown-code row-1 from-1 (s Refusal.UnknownCode)
+      (λ t f. tested R 2 (finite-all (handed a .numbers)) not-finite row-2 f (s Refusal.NotFinite)
+      (λ t f. tested R 3 (inside-all (handed a .numbers) t) out-of-limits row-3 f (s Refusal.OutOfLimits)
       (λ t f. k f)))

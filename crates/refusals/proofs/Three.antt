@@ -1,23 +1,20 @@
 -- Rows 1 to 3: the check of a call's codes and numbers gives the lowest of them that applies. A minus zero is inside the same limits as the plus zero that it is read as.
-use Prim.Native.Nat.{ℕ, zero, suc, _+_, _*_, _≤_, _<_}
+use Prim.Native.Nat.{ℕ, _+_, _*_, _≤_, _<_}
 use native.Mathlib.Omega.{arith}
 use native.Mathlib.Nat.{eq-or-lt-of-le}
-use mathlib.Core.Path.{_≡_, refl, sym, ap, _∙_, subst}
+use mathlib.Core.Path.{_≡_, refl, sym, subst}
 use mathlib.Core.Logic.{_⊎_, inl, inr}
-use mathlib.Core.Bool.{Bool, true, false, not, _&&_, _||_, Bool·beq, cond}
+use mathlib.Core.Bool.{Bool, true, false, not, _&&_, _||_, Bool·beq}
 use mathlib.Core.List.{List, [], _∷_, map}
 use lib.Dec.{T, ltb, leb, eqb, T-not, eqb→eq, ltb→lt, nltb→le, leb→le, nleb→lt}
 use lib.IntN.{ℤ, pos}
 use lib.Ieee.{Float, nan, inf, fin, up, down, below, level, lt, le, eq}
-use lib.Ieee.Fits.{and-l, and-r, and-i}
-use borrow.Author.Tests.{ltb-true, ltb-false, lt-ltb, le-ltb, eqb-true, eq-eqb, ne-eqb}
+use lib.Ieee.Fits.{and-l, and-r}
+use borrow.Author.Tests.{ltb-true, ltb-false, lt-ltb, le-ltb, eq-eqb, ne-eqb}
 use Rattle.f32_laws.specs.Numbers.{zero+}
 use Rattle.f32_laws.proofs.Tests.{both}
-use Rattle.float.specs.declared.Refusal.{Refusal}
-use Rattle.float.specs.declared.refuse.Check.{Check}
 use Rattle.float.specs.Numbers.{most, least, plusZero, finite, within, Given, size, offset, value, allowed, allFinite, allAllowed}
-use Rattle.float.specs.Refuse.{checkOf}
-use Rattle.refusals.specs.Numbered.{Code, side, clear, direction, mode, Unknown, NotFinite, Outside, Some}
+use Rattle.refusals.specs.Numbered.{Unknown, NotFinite, Outside, Some}
 
 -- ---- of finite values one is below the other exactly where it is not at least the other
 
@@ -101,27 +98,15 @@ pub not-above : (k n : ℕ) → Fails (n < k) (leb k n)
 not-above k n = record { passed = λ t h. omega (arith, leb→le k n t); failed = nleb→lt k n }
 
 -- ---- codes
-abbrev pub known : Code → Bool
-known (side k) = ltb k 2
-known (clear k) = ltb k 4
-known (direction k) = ltb k 2
-known (mode k) = ltb k 3
-
-abbrev pub allKnown : List Code → Bool
+abbrev pub allKnown : List (ℕ × ℕ) → Bool
 allKnown [] = true
-allKnown (c ∷ []) = known c
-allKnown (c ∷ d ∷ cs) = known c && allKnown (d ∷ cs)
+allKnown (c ∷ []) = ltb (c .0) (c .1)
+allKnown (c ∷ d ∷ cs) = ltb (c .0) (c .1) && allKnown (d ∷ cs)
 
-known-one : (c : Code) → Fails (Unknown c) (known c)
-known-one (side k) = not-below k 2
-known-one (clear k) = not-below k 4
-known-one (direction k) = not-below k 2
-known-one (mode k) = not-below k 3
-
-pub known-all : (cs : List Code) → Fails (Some Unknown cs) (allKnown cs)
+pub known-all : (cs : List (ℕ × ℕ)) → Fails (Some Unknown cs) (allKnown cs)
 known-all [] = never
-known-all (c ∷ []) = and-last (known-one c)
-known-all (c ∷ d ∷ cs) = and-also (known-one c) (known-all (d ∷ cs))
+known-all (c ∷ []) = and-last (not-below (c .0) (c .1))
+known-all (c ∷ d ∷ cs) = and-also (not-below (c .0) (c .1)) (known-all (d ∷ cs))
 
 -- ---- numbers, as they are read
 abbrev pub plus : Given → Given

@@ -32,41 +32,26 @@ pub data Asked : Type 0 where
   result : Asked
   lines : List ℕ → List ℕ → Asked
 
--- its codes, and its numbers by their rows of the table of limits: a size or an offset
-pub data Code : Type 0 where
-  side clear direction mode : ℕ → Code
+-- its codes, each with how many are known: 2 sides, 4 clears, 2 directions, 3 modes; and its numbers by their rows of the table of limits
+pub record Handed : Type 0 where
+  pub codes : List (ℕ × ℕ)
+  pub numbers : List Given
 
-abbrev pub codes : Asked → List Code
-codes (width w) = []
-codes (active y) = []
-codes (box c) = side (c .side) ∷ clear (c .clear) ∷ []
-codes (content c) = clear (c .clear) ∷ []
-codes (bfc c) = direction (c .direction) ∷ clear (c .clear) ∷ []
-codes (threshold k) = clear k ∷ []
-codes (start m w) = mode m ∷ []
-codes (add-box w s k) = side s ∷ clear k ∷ []
-codes result = []
-codes (lines t a) = []
+abbrev pub handed : Asked → Handed
+handed (width w) = record { codes = []; numbers = size w ∷ [] }
+handed (active y) = record { codes = []; numbers = offset y ∷ [] }
+handed (box c) = record { codes = (c .side, 2) ∷ (c .clear, 4) ∷ []; numbers = size (c .width) ∷ size (c .height) ∷ offset (c .minY) ∷ size (c .left) ∷ size (c .right) ∷ [] }
+handed (content c) = record { codes = (c .clear, 4) ∷ []; numbers = offset (c .minY) ∷ size (c .left) ∷ size (c .right) ∷ [] }
+handed (bfc c) = record { codes = (c .direction, 2) ∷ (c .clear, 4) ∷ []; numbers = offset (c .minY) ∷ size (c .left) ∷ size (c .right) ∷ offset (c .leftMargin) ∷ offset (c .rightMargin) ∷ [] }
+handed (threshold k) = record { codes = (k, 4) ∷ []; numbers = [] }
+handed (start zero w) = record { codes = (zero, 3) ∷ []; numbers = size w ∷ [] }
+handed (start (suc m) w) = record { codes = (suc m, 3) ∷ []; numbers = [] }
+handed (add-box w s k) = record { codes = (s, 2) ∷ (k, 4) ∷ []; numbers = size w ∷ [] }
+handed result = record { codes = []; numbers = [] }
+handed (lines t a) = record { codes = []; numbers = [] }
 
-abbrev pub numbers : Asked → List Given
-numbers (width w) = size w ∷ []
-numbers (active y) = offset y ∷ []
-numbers (box c) = size (c .width) ∷ size (c .height) ∷ offset (c .minY) ∷ size (c .left) ∷ size (c .right) ∷ []
-numbers (content c) = offset (c .minY) ∷ size (c .left) ∷ size (c .right) ∷ []
-numbers (bfc c) = offset (c .minY) ∷ size (c .left) ∷ size (c .right) ∷ offset (c .leftMargin) ∷ offset (c .rightMargin) ∷ []
-numbers (threshold k) = []
-numbers (start zero w) = size w ∷ []
-numbers (start (suc m) w) = []
-numbers (add-box w s k) = size w ∷ []
-numbers result = []
-numbers (lines t a) = []
-
--- sides 0 and 1, clear 0 to 3, direction 0 and 1, mode 0 to 2
-abbrev pub Unknown : Code → Type 0
-Unknown (side k) = 2 ≤ k
-Unknown (clear k) = 4 ≤ k
-Unknown (direction k) = 2 ≤ k
-Unknown (mode k) = 3 ≤ k
+abbrev pub Unknown : ℕ × ℕ → Type 0
+Unknown c = c .1 ≤ c .0
 
 abbrev pub NotFinite : Given → Type 0
 NotFinite g = (value g ≡ nan) ⊎ (value g ≡ inf true) ⊎ (value g ≡ inf false)
@@ -84,7 +69,7 @@ abbrev pub Some : {A : Type 0} → (A → Type 0) → List A → Type 0
 Some P [] = ⊥
 Some P (x ∷ xs) = P x ⊎ Some P xs
 
--- what rules 1 to 7 give a box: y, and the bands; one of no height keeps the spot's y and needs no band
+-- what rules 1 to 7 give a box: the bands and y; one of no height needs no band and keeps y as the search found it
 abbrev pub hasHeight : Call → Bool
 hasHeight c = not (eq (cleaned c .height) zero+)
 
@@ -94,21 +79,18 @@ madeOf p c = make (askOf p (cleaned c)) (p .bands) (spotOf p (cleaned c))
 abbrev pub yOf : Page → Call → Float
 yOf p c = cond (hasHeight c) (madeOf p c .y) (spotOf p (cleaned c) .y)
 
--- a side's sum after a box: zeroed if cleared, with the width added if it is the box's side
-abbrev pub sumOf : FloatDirection → Float → Float → ℕ → ℕ → Float
-sumOf t x w s k = plusOn (sideOf s) t (zeroed (clearOf k) t x) (plusZero w)
-
+-- the calculator's sums after a box, and the two together
 abbrev pub sums : FloatIntrinsicWidthCalculator → Float → ℕ → ℕ → List Float
 sums c w s k =
-    let l = sumOf FloatDirection.Left (c .«left_sum») w s k in
-    let r = sumOf FloatDirection.Right (c .«right_sum») w s k in
+    let l = plusOn (sideOf s) FloatDirection.Left (zeroed (clearOf k) FloatDirection.Left (c .«left_sum»)) (plusZero w) in
+    let r = plusOn (sideOf s) FloatDirection.Right (zeroed (clearOf k) FloatDirection.Right (c .«right_sum»)) (plusZero w) in
     l ∷ r ∷ add binary32 l r ∷ []
 
--- the table: what is asked on the page p with the calculator q, and the numbers that apply
+-- the table: what is asked on the page p with the calculator q, and the numbers that apply to it
 pub data Applies (p : Page) (q : Calculator) : Asked → ℕ → Type 0 where
-  unknown-code : {a : Asked} → Some Unknown (codes a) → Applies p q a 1
-  not-finite : {a : Asked} → Some NotFinite (numbers a) → Applies p q a 2
-  out-of-limits : {a : Asked} → Some Outside (numbers a) → Applies p q a 3
+  unknown-code : {a : Asked} → Some Unknown (handed a .codes) → Applies p q a 1
+  not-finite : {a : Asked} → Some NotFinite (handed a .numbers) → Applies p q a 2
+  out-of-limits : {a : Asked} → Some Outside (handed a .numbers) → Applies p q a 3
   width-fixed : {w : Float} → 0 < length (p .boxes) → Applies p q (width w) 4
   boxes-full : {c : Call} → 64 ≤ length (p .boxes) → Applies p q (box c) 5
   too-far : {c : Call} → Some Passes (add binary32 (yOf p c) (cleaned c .height) ∷ add binary32 (spotOf p (cleaned c) .inset) (cleaned c .width) ∷ []) → Applies p q (box c) 6
