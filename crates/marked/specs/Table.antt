@@ -120,13 +120,12 @@ table =
     ∷ fresh
     ∷ left 100 10 0 0 0
     ∷ left 50 0 0 0 1
-    -- 5, with insets 0 and 60; 6; 7: nothing is split at 55; 8
+    -- 5, with insets 0 and 60; 6; 7: five bands as before it, for nothing is split at 55; 8
     ∷ fresh
     ∷ left 10 30 0 0 0
     ∷ full 0 0 (n 10) (n 60) (n 0) (n 0) (n 60) (at 10 0 1)
     ∷ left 10 10 20 0 0
     ∷ right 5 20 95 0 1
-    ∷ bands 5
     ∷ left 20 45 20 10 5
     ∷ bands 5
     ∷ ask 56 0 (count 4) 40 56 0
