@@ -9,6 +9,7 @@ use Rattle.float.specs.Page.{pageOf}
 use Rattle.float.specs.Place.{placeOf, widthOf}
 use Rattle.float.specs.Slot.{hasActiveFloats, clearedThreshold, content as contentOf, bfc as bfcOf}
 use Rattle.float.specs.Calculator.{addOf}
+use Rattle.tape.specs.declared.record.Record.{Record}
 use Rattle.tape.specs.declared.step.Calculator.{Calculator}
 use Rattle.tape.specs.Bytes.{decimal, row}
 use Rattle.tape.specs.Tape.{startOf, addTo, resultLine, linesOf, returned}
@@ -36,3 +37,14 @@ Refuses p (Calculator.One c) (add-box w s k) n = saidDone (addOf c w s k .answer
 Refuses p Calculator.None (add-box w s k) n = addTo Calculator.None w s k .line ≡ refusal n
 Refuses p q result n = resultLine q ≡ refusal n
 Refuses p q (lines t a) n = saidReturned (returned (linesOf t) a) ≡ refused n
+
+-- the call that a record of a tape makes; a fresh page is no call that can be refused
+abbrev pub asked : Record → List Asked
+asked Record.Fresh = []
+asked (Record.Width w) = width w ∷ []
+asked (Record.Place side clear w h y l r) = box (record { side = side; clear = clear; width = w; height = h; minY = y; left = l; right = r }) ∷ []
+asked (Record.Content y l r clear after) = content (record { minY = y; left = l; right = r; clear = clear; after = after }) ∷ []
+asked (Record.Bfc y l r ml mr d clear after) = bfc (record { minY = y; left = l; right = r; leftMargin = ml; rightMargin = mr; direction = d; clear = clear; after = after }) ∷ []
+asked (Record.Start mode w) = start mode w ∷ []
+asked (Record.Add w side clear) = add-box w side clear ∷ []
+asked Record.Result = result ∷ []
