@@ -26,6 +26,7 @@ pub data Said : Type 0 where
   refused : ℕ → Said
   values : List Value → Said
 
+-- a band's number or a bottom, if there is one
 abbrev pub band : BandNumber → Value
 band BandNumber.None = missing
 band (BandNumber.At i) = count i

@@ -1,10 +1,14 @@
--- The line R: a record of a tape prints R n exactly where the call that it makes answers refusal n, so where n applies and no lower number does.
+-- The tape: a record prints R n exactly where the call that it makes answers refusal n, so where n applies and no lower number does; and a refused room is left as it was.
 use Prim.Native.Nat.{ℕ}
 use native.Mathlib.Omega.{arith}
-use mathlib.Core.Path.{_≡_, ap}
+use mathlib.Core.Path.{_≡_, refl, ap}
 use mathlib.Core.Logic.{_⊎_, inl, inr, _↔_}
+use mathlib.Core.Bool.{Bool, true, false, cond}
 use mathlib.Core.List.{List}
+use lib.Dec.{leb}
+use lib.IntN.{pos, negℤ}
 use lib.Ieee.{Float}
+use lib.ListN.{length}
 use Rattle.float.specs.declared.BfcAnswer.{BfcAnswer}
 use Rattle.float.specs.declared.CalculatorAnswer.{CalculatorAnswer}
 use Rattle.float.specs.declared.ContentAnswer.{ContentAnswer}
@@ -13,7 +17,7 @@ use Rattle.float.specs.declared.PlaceAnswer.{PlaceAnswer}
 use Rattle.float.specs.declared.Refusal.{Refusal}
 use Rattle.float.specs.Refuse.{numberOf}
 use Rattle.float.specs.Answers.{Value, Said, refused, values, saidPlace, saidDone, saidContent, saidBfc, saidStarted}
-use Rattle.float.specs.Page.{pageOf}
+use Rattle.float.specs.Page.{pageOf, front}
 use Rattle.float.specs.Place.{placeOf, widthOf}
 use Rattle.float.specs.Slot.{content as contentOf, bfc as bfcOf}
 use Rattle.float.specs.Calculator.{addOf}
@@ -22,9 +26,9 @@ use Rattle.tape.specs.declared.step.Calculator.{Calculator}
 use Rattle.tape.specs.declared.step.State.{State}
 use Rattle.tape.specs.Bytes.{row}
 use Rattle.tape.specs.Lines.{refusedLine, doneLine, placeLine, contentLine, bfcLine}
-use Rattle.tape.specs.Tape.{startOf, started, addTo, stepOf}
+use Rattle.tape.specs.Tape.{startOf, started, addTo, stepOf, linesOf, returned, filled}
 use Rattle.refusals.specs.Numbered.{Asked, width, box, content, bfc, start, add-box, result, Some, Applies, Lowest}
-use Rattle.refusals.specs.Answered.{refusal, Refuses, asked}
+use Rattle.refusals.specs.Answered.{saidReturned, refusal, Refuses, asked}
 use Rattle.refusals.proofs.Decimals.{one-number}
 use Rattle.refusals.proofs.Exactly.{refused-exactly-when}
 
@@ -88,3 +92,12 @@ line-exactly-when s (Record.Bfc y l r ml mr d clear after) n = by-call s (bfc _)
 line-exactly-when s (Record.Start mode w) n = by-call s (start mode w) n (starts (s .calculator) (startOf mode w) n)
 line-exactly-when s (Record.Add w side clear) n = by-call s (add-box w side clear) n (adds s (s .calculator) w side clear n)
 line-exactly-when s Record.Result n = by-call s result n (λ e. e, λ e. e)
+
+-- where the room is refused, nothing is written
+pub nothing-written : (t a : List ℕ) (n : ℕ) → saidReturned (returned (linesOf t) a) ≡ refused n → filled (linesOf t) a ≡ a
+unfolding returned filled
+nothing-written t a n = go (leb (length (linesOf t)) (length a))
+  where
+    go : (b : Bool) → saidReturned (cond b (pos (length (linesOf t))) (negℤ (pos 13))) ≡ refused n → cond b (front (linesOf t) a) a ≡ a
+    go true e = absurd (let z : _≡_ {A = ℕ} 0 1 = cc in omega arith)
+    go false e = refl

@@ -20,7 +20,8 @@ use Rattle.float.specs.Calculator.{zeroed, plusOn}
 use Rattle.tape.specs.declared.step.Calculator.{Calculator}
 use Rattle.tape.specs.Tape.{linesOf}
 
--- what can be asked, as it is handed in: of a page, of the calculator, or the lines of a tape with the room lent for them
+-- What can be asked, as it is handed in. Of a page: a width, has_active_floats at a min_y, a box, the two slot questions, cleared_threshold of a clear.
+-- Of a calculator: start with a mode and a number, add a width, side and clear, the result. Of a tape: its lines, into the room lent for them.
 pub data Asked : Type 0 where
   width active : Float → Asked
   box : Call → Asked
@@ -50,12 +51,15 @@ handed (add-box w s k) = record { codes = (s, 2) ∷ (k, 4) ∷ []; numbers = si
 handed result = record { codes = []; numbers = [] }
 handed (lines t a) = record { codes = []; numbers = [] }
 
+-- a code past the known ones
 abbrev pub Unknown : ℕ × ℕ → Type 0
 Unknown c = c .1 ≤ c .0
 
+-- NaN or an infinity
 abbrev pub NotFinite : Given → Type 0
 NotFinite g = (value g ≡ nan) ⊎ (value g ≡ inf true) ⊎ (value g ≡ inf false)
 
+-- below 0 or -65,536, or above 65,536
 abbrev pub Outside : Given → Type 0
 Outside (size x) = T (lt x zero+) ⊎ T (lt most x)
 Outside (offset x) = T (lt x least) ⊎ T (lt most x)
@@ -69,13 +73,15 @@ abbrev pub Some : {A : Type 0} → (A → Type 0) → List A → Type 0
 Some P [] = ⊥
 Some P (x ∷ xs) = P x ⊎ Some P xs
 
--- what rules 1 to 7 give a box: the bands and y; one of no height needs no band and keeps y as the search found it
+-- rule 5 is for a box of no height: it needs no band and keeps y as the search found it
 abbrev pub hasHeight : Call → Bool
 hasHeight c = not (eq (cleaned c .height) zero+)
 
+-- the bands and the y that rules 1 to 7 give a box with a height
 abbrev pub madeOf : Page → Call → Made
 madeOf p c = make (askOf p (cleaned c)) (p .bands) (spotOf p (cleaned c))
 
+-- the y of either
 abbrev pub yOf : Page → Call → Float
 yOf p c = cond (hasHeight c) (madeOf p c .y) (spotOf p (cleaned c) .y)
 
