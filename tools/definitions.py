@@ -1,19 +1,21 @@
 #!/usr/bin/env python3
 """Tries the changed definitions of crates/NAME/definitions/*.edit: each says another thing than the
 rules do, and must be refused by the table of the marked examples, by the promises over any
-sequence of calls, or by a proof of NAME.
+sequence of calls, by the theorem that each call is refused exactly when the paper's table says so,
+or by a proof of NAME.
 
 The form is that of the edits (tools/edits.py); a line `by: JUDGE` names the judge that must refuse
-it. The table and the promises are asked in a copy in which `float` and `tape` are types and
-definitions alone, so that nothing else can speak there. The table refuses a definition when the
-examples are proved to come out false with it. What both let pass is held against the proofs of
-NAME, in the copy where the edits are tried; with --all every judge is asked about every one. A
-definition that is none (a slip of the pen) counts as a failure.
+it. The first three are asked in a copy in which `float` and `tape` are types and definitions
+alone, so that nothing else can speak there. The table refuses a definition when the examples are
+proved to come out false with it. What all three let pass is held against the proofs of NAME, in
+the copy where the edits are tried; with --all every judge is asked about every one. A definition
+that is none (a slip of the pen) counts as a failure.
 
 usage: definitions.py [--all] [--markdown FILE] [NAME/LABEL ..]   (from the repository's root)
 --markdown FILE writes the result there as a table.
 """
 import argparse
+import functools
 import re
 import shutil
 import sys
@@ -23,7 +25,7 @@ from edits import ROOT, SCRATCH, copy_crates, dev, first_error, read_edit, verdi
 
 COPY = ROOT / "target" / "definitions"
 PROOFS = SCRATCH / "1"
-TABLE, PROMISES, PROOF = "the table", "the promises", "a proof"
+TABLE, PROMISES, REFUSALS, PROOF = "the table", "the promises", "the refusals", "a proof"
 
 
 def types_of(text):
@@ -36,7 +38,7 @@ def types_of(text):
 
 
 def copy_definitions():
-    """A repository of definitions, with the table, said to come out false, and the promises above them."""
+    """A repository of definitions, with the table, said to come out false, the promises and the refusals above them."""
     copy_crates(COPY)
     for name in ("float", "tape"):
         crate = COPY / "crates" / name
@@ -75,20 +77,29 @@ def refused_by_table(name, path):
     return "the examples come out false" if verdict(said) == "logic=proved" else ""
 
 
-def refused_by_promises(name, path):
-    """A proof of `demands` fails, and not for a name that is gone."""
-    said = tried(COPY, name, path, "demands")
+def refused_by_theorems(asked, name, path):
+    """A proof of the crate `asked` fails, and not for a name that is gone."""
+    said = tried(COPY, name, path, asked)
     words = first_error(said)
-    return words if verdict(said) == "logic=not-proved" and "/demands/proofs/" in said and "not in scope" not in words else ""
+    return words if verdict(said) == "logic=not-proved" and f"/{asked}/proofs/" in said and "not in scope" not in words else ""
+
+
+@functools.cache
+def proved(name):
+    """The crate is proved without a change, where the edits are tried."""
+    if verdict(dev(PROOFS, name)) != "logic=proved":
+        raise SystemExit(f"definitions: {name} is not proved as it stands")
 
 
 def refused_by_proof(name, path):
     """A proof of the crate itself fails."""
+    proved(name)
     said = tried(PROOFS, name, path, name)
     return first_error(said) if verdict(said) == "logic=not-proved" else ""
 
 
-JUDGES = ((TABLE, refused_by_table), (PROMISES, refused_by_promises), (PROOF, refused_by_proof))
+JUDGES = ((TABLE, refused_by_table), (PROMISES, functools.partial(refused_by_theorems, "demands")),
+          (REFUSALS, functools.partial(refused_by_theorems, "refusals")), (PROOF, refused_by_proof))
 
 
 def judged(name, path, ask_all):
@@ -118,11 +129,9 @@ def main():
     copy_crates(PROOFS)
     if verdict(dev(COPY, "marked")) != "logic=not-proved":
         raise SystemExit("definitions: the marked examples come out false as they stand")
-    if verdict(dev(COPY, "demands")) != "logic=proved":
-        raise SystemExit("definitions: the promises are not proved as they stand")
-    for name in sorted({name for name, _ in edits}):
-        if verdict(dev(PROOFS, name)) != "logic=proved":
-            raise SystemExit(f"definitions: {name} is not proved as it stands")
+    for name, what in (("demands", PROMISES), ("refusals", REFUSALS)):
+        if verdict(dev(COPY, name)) != "logic=proved":
+            raise SystemExit(f"definitions: {what} are not proved as they stand")
     rows, failed = [], []
     for name, path in edits:
         label, by = f"{name}/{path.stem}", {}

@@ -12,3 +12,4 @@ pub mod Hold
 pub mod Slot
 pub mod Quest
 pub mod Calculator
+pub mod Answers

@@ -1,40 +1,38 @@
 -- Document 01's twelve marked examples and its tape as one table, and the theorem that the definitions give every figure in it.
 use Prim.Native.Nat.{ℕ}
 use mathlib.Core.Path.{_≡_, refl}
-use mathlib.Core.Bool.{Bool, true, false, _&&_}
-use mathlib.Core.List.{List, [], _∷_}
+use mathlib.Core.Bool.{Bool, true, false, _&&_, cond}
+use mathlib.Core.List.{List, [], _∷_, _++_}
 use lib.IntN.{pos}
 use lib.Count.{trailingZeros}
 use lib.Dec.{eqb}
+use lib.ListN.{length}
 use lib.Ieee.{Float, binary32, nan, add, sub, lt, le, eq, ofBits, ofFields, ofInt, neg, toBits, sum, round, units, odd, size, span, climb}
 use Rattle.f32_laws.specs.Numbers.{larger, smaller, zero+, tol}
 use Rattle.float.specs.declared.BandNumber.{BandNumber}
-use Rattle.float.specs.declared.ContentAnswer.{ContentAnswer}
-use Rattle.float.specs.declared.Done.{Done}
 use Rattle.float.specs.declared.FloatContext.{FloatContext}
-use Rattle.float.specs.declared.PlaceAnswer.{PlaceAnswer}
-use Rattle.float.specs.declared.Refusal.{Refusal}
 use Rattle.float.specs.Numbers.{plusZero, finite, within, inReach, allFinite, allAllowed}
-use Rattle.float.specs.Refuse.{numberOf, checkOf}
+use Rattle.float.specs.Refuse.{checkOf}
+use Rattle.float.specs.Answers.{Value, float, count, truth, missing, Said, refused, values, saidPlace, saidDone, saidContent}
 use Rattle.float.specs.Bands.{splitAt, markAll, lastEnd, firstBelow}
 use Rattle.float.specs.Page.{pageOf, stored, front, freshContext}
 use Rattle.float.specs.Clear.{lower, raiseTo, cleared, clearedPast}
 use Rattle.float.specs.Fit.{passes, placedAt, fits}
 use Rattle.float.specs.Search.{joined, taller, highTurn, joinTurn, endTurn, fitTurn, startTurn, search, searchFrom}
 use Rattle.float.specs.Place.{Call, lowest, firstAllowed, spotOf, walked, make, high, flat, put, admitted, checked, place, placeOf, widthCheck, setWidth, widthOf}
-use Rattle.float.specs.Slot.{active, seek, contentSlot, content}
-use Rattle.tape.specs.Bytes.{f32At, digits, float, decimals, decimal, fields}
+use Rattle.float.specs.Slot.{ContentCall, active, seek, contentSlot, content}
+use Rattle.tape.specs.Bytes.{f32At, digits, float as floatText, decimals, decimal, fields}
 use Rattle.tape.specs.Record.{afterAt, readOf}
 use Rattle.tape.specs.Lines.{refusedLine, doneLine, placeLine, band, contentLine}
 use Rattle.tape.specs.Tape.{freshState, stepOf, run, linesOf}
 
--- what is done to the page, and what it must give
+-- what is done to the page, and what it must say by the paper's numbers and values
 pub data Entry : Type 0 where
   fresh : Entry
-  width : Float → Done → Entry
-  box : Call → PlaceAnswer → Entry
+  width : Float → Said → Entry
+  box : Call → Said → Entry
   bands : ℕ → Entry
-  slot : Float → ℕ → BandNumber → Float → Float → Float → Entry
+  slot : ContentCall → Said → Entry
   tape : List ℕ → List ℕ → Entry
 
 -- a whole number, and the bits of a float
@@ -44,57 +42,53 @@ n k = ofInt binary32 (pos k)
 abbrev pub b : ℕ → Float
 b k = ofBits binary32 k
 
--- ---- a given answer against the one in the table: floats by their bits, refusals by their number
-abbrev pub same : Float → Float → Bool
-same x y = eqb (toBits binary32 x) (toBits binary32 y)
+-- ---- what is said against what the table says: as numbers, a float by its bits
+abbrev pub written : Value → List ℕ
+written (float x) = 0 ∷ toBits binary32 x ∷ []
+written (count k) = 1 ∷ k ∷ []
+written (truth t) = 2 ∷ cond t 1 0 ∷ []
+written missing = 3 ∷ []
 
-abbrev pub sameDone : Done → Done → Bool
-sameDone Done.Accepted Done.Accepted = true
-sameDone Done.Accepted (Done.Refused m) = false
-sameDone (Done.Refused k) Done.Accepted = false
-sameDone (Done.Refused k) (Done.Refused m) = eqb (numberOf k) (numberOf m)
+unfoldable pub allWritten : List Value → List ℕ
+allWritten [] = []
+allWritten (v ∷ vs) = written v ++ allWritten vs
 
-abbrev pub samePlace : PlaceAnswer → PlaceAnswer → Bool
-samePlace (PlaceAnswer.At x y k) (PlaceAnswer.At x' y' k') = same x x' && same y y' && eqb k k'
-samePlace (PlaceAnswer.At x y k) (PlaceAnswer.Refused m) = false
-samePlace (PlaceAnswer.Refused m) (PlaceAnswer.At x y k) = false
-samePlace (PlaceAnswer.Refused m) (PlaceAnswer.Refused m') = eqb (numberOf m) (numberOf m')
+abbrev pub told : Said → List ℕ
+told (refused k) = 0 ∷ k ∷ []
+told (values vs) = 1 ∷ allWritten vs
 
-abbrev pub sameBand : BandNumber → BandNumber → Bool
-sameBand BandNumber.None BandNumber.None = true
-sameBand BandNumber.None (BandNumber.At j) = false
-sameBand (BandNumber.At i) BandNumber.None = false
-sameBand (BandNumber.At i) (BandNumber.At j) = eqb i j
-
-abbrev pub sameSlot : ContentAnswer → BandNumber → Float → Float → Float → Bool
-sameSlot (ContentAnswer.Refused r) i x y w = false
-sameSlot (ContentAnswer.Slot s) i x y w = sameBand (s .band) i && same (s .x) x && same (s .y) y && same (s .width) w
-
-unfoldable pub sameBytes : List ℕ → List ℕ → Bool
-sameBytes [] [] = true
-sameBytes [] (y ∷ ys) = false
-sameBytes (x ∷ xs) [] = false
-sameBytes (x ∷ xs) (y ∷ ys) = eqb x y && sameBytes xs ys
+unfoldable pub same : List ℕ → List ℕ → Bool
+same [] [] = true
+same [] (y ∷ ys) = false
+same (x ∷ xs) [] = false
+same (x ∷ xs) (y ∷ ys) = eqb x y && same xs ys
 
 -- ---- the table run from a page on: every entry must give what it says
 unfoldable pub holds : List Entry → FloatContext → Bool
 holds [] p = true
 holds (fresh ∷ es) p = holds es (widthOf freshContext (n 100) .page)
-holds (width w d ∷ es) p = let r = widthOf p w in sameDone (r .answer) d && holds es (r .page)
-holds (box c a ∷ es) p = let r = placeOf p c in samePlace (r .answer) a && holds es (r .page)
-holds (bands k ∷ es) p = eqb (p .count) k && holds es p
-holds (slot y c i x y' w ∷ es) p = sameSlot (content (pageOf p) (record { minY = y; left = n 0; right = n 0; clear = c; after = BandNumber.None })) i x y' w && holds es p
-holds (tape t ls ∷ es) p = sameBytes (linesOf t) ls && holds es p
+holds (width w s ∷ es) p = let r = widthOf p w in same (told (saidDone (r .answer))) (told s) && holds es (r .page)
+holds (box c s ∷ es) p = let r = placeOf p c in same (told (saidPlace (r .answer))) (told s) && holds es (r .page)
+holds (bands k ∷ es) p = eqb (length (pageOf p .bands)) k && holds es p
+holds (slot c s ∷ es) p = same (told (saidContent (content (pageOf p) c))) (told s) && holds es p
+holds (tape t ls ∷ es) p = same (linesOf t) ls && holds es p
 
 -- ---- the calls of the examples: min_y 0, insets 0 and no clear unless said; the answer x, y, steps
-abbrev pub full : ℕ → ℕ → Float → Float → Float → Float → Float → PlaceAnswer → Entry
-full side clear w h y l r a = box (record { side = side; clear = clear; width = w; height = h; minY = y; left = l; right = r }) a
+abbrev pub at : ℕ → ℕ → ℕ → Said
+at x y k = values (float (n x) ∷ float (n y) ∷ count k ∷ [])
+
+abbrev pub full : ℕ → ℕ → Float → Float → Float → Float → Float → Said → Entry
+full side clear w h y l r s = box (record { side = side; clear = clear; width = w; height = h; minY = y; left = l; right = r }) s
 
 abbrev pub left : ℕ → ℕ → ℕ → ℕ → ℕ → Entry
-left w h x y k = full 0 0 (n w) (n h) (n 0) (n 0) (n 0) (PlaceAnswer.At (n x) (n y) k)
+left w h x y k = full 0 0 (n w) (n h) (n 0) (n 0) (n 0) (at x y k)
 
 abbrev pub right : ℕ → ℕ → ℕ → ℕ → ℕ → Entry
-right w h x y k = full 1 0 (n w) (n h) (n 0) (n 0) (n 0) (PlaceAnswer.At (n x) (n y) k)
+right w h x y k = full 1 0 (n w) (n h) (n 0) (n 0) (n 0) (at x y k)
+
+-- a content question at y with a clear: band, x, y, width
+abbrev pub ask : ℕ → ℕ → Value → ℕ → ℕ → ℕ → Entry
+ask y clear i x y' w = slot (record { minY = n y; left = n 0; right = n 0; clear = clear; after = BandNumber.None }) (values (i ∷ float (n x) ∷ float (n y') ∷ float (n w) ∷ []))
 
 -- the tape of document 01: width 100, a left box 10 by 30 at 0, a content question at 0, then byte 9
 pub firstTape : List ℕ
@@ -121,40 +115,41 @@ table =
     ∷ left 10 10 0 0 0
     ∷ bands 2
     ∷ right 10 30 90 0 1
-    ∷ full 0 1 (n 10) (n 5) (n 0) (n 0) (n 0) (PlaceAnswer.At (n 0) (n 30) 0)
+    ∷ full 0 1 (n 10) (n 5) (n 0) (n 0) (n 0) (at 0 30 0)
     -- 4
     ∷ fresh
     ∷ left 100 10 0 0 0
     ∷ left 50 0 0 0 1
-    -- 5, with insets 0 and 60; 6; 7; 8
+    -- 5, with insets 0 and 60; 6; 7: five bands as before it, for nothing is split at 55; 8
     ∷ fresh
     ∷ left 10 30 0 0 0
-    ∷ full 0 0 (n 10) (n 60) (n 0) (n 0) (n 60) (PlaceAnswer.At (n 10) (n 0) 1)
+    ∷ full 0 0 (n 10) (n 60) (n 0) (n 0) (n 60) (at 10 0 1)
     ∷ left 10 10 20 0 0
     ∷ right 5 20 95 0 1
     ∷ left 20 45 20 10 5
-    ∷ slot (n 56) 0 (BandNumber.At 4) (n 40) (n 56) (n 0)
+    ∷ bands 5
+    ∷ ask 56 0 (count 4) 40 56 0
     -- 9, content clearing left
     ∷ fresh
-    ∷ full 0 0 (n 50) (n 0) (n 20) (n 0) (n 0) (PlaceAnswer.At (n 0) (n 20) 0)
-    ∷ slot (n 0) 1 BandNumber.None (n 0) (n 0) (n 100)
+    ∷ full 0 0 (n 50) (n 0) (n 20) (n 0) (n 0) (at 0 20 0)
+    ∷ ask 0 1 missing 0 0 100
     -- 10: 40.0005, then 40.01
     ∷ fresh
     ∷ left 60 10 0 0 0
-    ∷ full 0 0 (b 0x4220_0083) (n 10) (n 0) (n 0) (n 0) (PlaceAnswer.At (n 60) (n 0) 0)
+    ∷ full 0 0 (b 0x4220_0083) (n 10) (n 0) (n 0) (n 0) (at 60 0 0)
     ∷ fresh
     ∷ left 60 10 0 0 0
-    ∷ full 0 0 (b 0x4220_0a3d) (n 10) (n 0) (n 0) (n 0) (PlaceAnswer.At (n 0) (n 10) 1)
+    ∷ full 0 0 (b 0x4220_0a3d) (n 10) (n 0) (n 0) (n 0) (at 0 10 1)
     -- 11: 65,536, the next f32 above it, NaN with a negative height
     ∷ fresh
-    ∷ width (b 0x4780_0000) Done.Accepted
-    ∷ width (b 0x4780_0001) (Done.Refused Refusal.OutOfLimits)
-    ∷ full 0 0 nan (neg (n 1)) (n 0) (n 0) (n 0) (PlaceAnswer.Refused Refusal.NotFinite)
+    ∷ width (b 0x4780_0000) (values [])
+    ∷ width (b 0x4780_0001) (refused 3)
+    ∷ full 0 0 nan (neg (n 1)) (n 0) (n 0) (n 0) (refused 2)
     -- 12, and the tape of "The tape"
     ∷ tape [] []
     ∷ tape firstTape firstLines
     ∷ []
 
 pub marked-examples : holds table freshContext ≡ true
-unfolding holds sameBytes table firstTape firstLines pageOf stored front freshContext lower raiseTo cleared clearedPast splitAt markAll lastEnd firstBelow passes placedAt fits joined taller highTurn joinTurn endTurn fitTurn startTurn search searchFrom plusZero finite within inReach allFinite allAllowed checkOf lowest firstAllowed spotOf walked make high flat put admitted checked place placeOf widthCheck setWidth widthOf active seek contentSlot content f32At digits float decimals decimal fields afterAt readOf refusedLine doneLine placeLine band contentLine freshState stepOf run linesOf larger smaller zero+ tol add sub lt le eq ofBits ofFields ofInt neg toBits sum round units odd size span climb trailingZeros
+unfolding holds same allWritten table firstTape firstLines pageOf stored front freshContext lower raiseTo cleared clearedPast splitAt markAll lastEnd firstBelow passes placedAt fits joined taller highTurn joinTurn endTurn fitTurn startTurn search searchFrom plusZero finite within inReach allFinite allAllowed checkOf lowest firstAllowed spotOf walked make high flat put admitted checked place placeOf widthCheck setWidth widthOf active seek contentSlot content f32At digits floatText decimals decimal fields afterAt readOf refusedLine doneLine placeLine band contentLine freshState stepOf run linesOf larger smaller zero+ tol add sub lt le eq ofBits ofFields ofInt neg toBits sum round units odd size span climb trailingZeros
 marked-examples = refl

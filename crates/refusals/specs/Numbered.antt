@@ -1,0 +1,111 @@
+-- The paper's table "Numbered no", row by row, over every call that can be refused. Definitions only.
+use Prim.Native.Nat.{ℕ, zero, suc, _≤_, _<_}
+use mathlib.Core.Path.{_≡_}
+use mathlib.Core.Logic.{_⊎_, _≢_}
+use mathlib.Core.Bool.{Bool, true, false, not, cond}
+use mathlib.Core.List.{List, [], _∷_}
+use lib.Dec.{T}
+use lib.Ieee.{Float, nan, inf, binary32, add, lt, le, eq}
+use lib.ListN.{length}
+use Rattle.f32_laws.specs.Numbers.{zero+}
+use Rattle.float.specs.declared.AvailableSpace.{AvailableSpace}
+use Rattle.float.specs.declared.FloatDirection.{FloatDirection}
+use Rattle.float.specs.declared.FloatIntrinsicWidthCalculator.{FloatIntrinsicWidthCalculator}
+use Rattle.float.specs.Numbers.{most, least, farthest, plusZero, Given, size, offset, value}
+use Rattle.float.specs.Refuse.{sideOf, clearOf}
+use Rattle.float.specs.Page.{Page}
+use Rattle.float.specs.Place.{Call, cleaned, askOf, spotOf, Made, make}
+use Rattle.float.specs.Slot.{ContentCall, BfcCall}
+use Rattle.float.specs.Calculator.{zeroed, plusOn}
+use Rattle.tape.specs.declared.step.Calculator.{Calculator}
+use Rattle.tape.specs.Tape.{linesOf}
+
+-- What can be asked, as it is handed in. Of a page: a width, has_active_floats at a min_y, a box, the two slot questions, cleared_threshold of a clear.
+-- Of a calculator: start with a mode and a number, add a width, side and clear, the result. Of a tape: its lines, into the room lent for them.
+pub data Asked : Type 0 where
+  width active : Float → Asked
+  box : Call → Asked
+  content : ContentCall → Asked
+  bfc : BfcCall → Asked
+  threshold : ℕ → Asked
+  start : ℕ → Float → Asked
+  add-box : Float → ℕ → ℕ → Asked
+  result : Asked
+  lines : List ℕ → List ℕ → Asked
+
+-- its codes, each with how many are known: 2 sides, 4 clears, 2 directions, 3 modes; and its numbers by their rows of the table of limits
+pub record Handed : Type 0 where
+  pub codes : List (ℕ × ℕ)
+  pub numbers : List Given
+
+abbrev pub handed : Asked → Handed
+handed (width w) = record { codes = []; numbers = size w ∷ [] }
+handed (active y) = record { codes = []; numbers = offset y ∷ [] }
+handed (box c) = record { codes = (c .side, 2) ∷ (c .clear, 4) ∷ []; numbers = size (c .width) ∷ size (c .height) ∷ offset (c .minY) ∷ size (c .left) ∷ size (c .right) ∷ [] }
+handed (content c) = record { codes = (c .clear, 4) ∷ []; numbers = offset (c .minY) ∷ size (c .left) ∷ size (c .right) ∷ [] }
+handed (bfc c) = record { codes = (c .direction, 2) ∷ (c .clear, 4) ∷ []; numbers = offset (c .minY) ∷ size (c .left) ∷ size (c .right) ∷ offset (c .leftMargin) ∷ offset (c .rightMargin) ∷ [] }
+handed (threshold k) = record { codes = (k, 4) ∷ []; numbers = [] }
+handed (start zero w) = record { codes = (zero, 3) ∷ []; numbers = size w ∷ [] }
+handed (start (suc m) w) = record { codes = (suc m, 3) ∷ []; numbers = [] }
+handed (add-box w s k) = record { codes = (s, 2) ∷ (k, 4) ∷ []; numbers = size w ∷ [] }
+handed result = record { codes = []; numbers = [] }
+handed (lines t a) = record { codes = []; numbers = [] }
+
+-- a code past the known ones
+abbrev pub Unknown : ℕ × ℕ → Type 0
+Unknown c = c .1 ≤ c .0
+
+-- NaN or an infinity
+abbrev pub NotFinite : Given → Type 0
+NotFinite g = (value g ≡ nan) ⊎ (value g ≡ inf true) ⊎ (value g ≡ inf false)
+
+-- below 0 or -65,536, or above 65,536
+abbrev pub Outside : Given → Type 0
+Outside (size x) = T (lt x zero+) ⊎ T (lt most x)
+Outside (offset x) = T (lt x least) ⊎ T (lt most x)
+
+-- x is not at most 131,072
+abbrev pub Passes : Float → Type 0
+Passes x = T (not (le x farthest))
+
+-- P holds of one in the list
+abbrev pub Some : {A : Type 0} → (A → Type 0) → List A → Type 0
+Some P [] = ⊥
+Some P (x ∷ xs) = P x ⊎ Some P xs
+
+-- rule 5 is for a box of no height: it needs no band and keeps y as the search found it
+abbrev pub hasHeight : Call → Bool
+hasHeight c = not (eq (cleaned c .height) zero+)
+
+-- the bands and the y that rules 1 to 7 give a box with a height
+abbrev pub madeOf : Page → Call → Made
+madeOf p c = make (askOf p (cleaned c)) (p .bands) (spotOf p (cleaned c))
+
+-- the y of either
+abbrev pub yOf : Page → Call → Float
+yOf p c = cond (hasHeight c) (madeOf p c .y) (spotOf p (cleaned c) .y)
+
+-- the calculator's sums after a box, and the two together
+abbrev pub sums : FloatIntrinsicWidthCalculator → Float → ℕ → ℕ → List Float
+sums c w s k =
+    let l = plusOn (sideOf s) FloatDirection.Left (zeroed (clearOf k) FloatDirection.Left (c .«left_sum»)) (plusZero w) in
+    let r = plusOn (sideOf s) FloatDirection.Right (zeroed (clearOf k) FloatDirection.Right (c .«right_sum»)) (plusZero w) in
+    l ∷ r ∷ add binary32 l r ∷ []
+
+-- the table: what is asked on the page p with the calculator q, and the numbers that apply to it
+pub data Applies (p : Page) (q : Calculator) : Asked → ℕ → Type 0 where
+  unknown-code : {a : Asked} → Some Unknown (handed a .codes) → Applies p q a 1
+  not-finite : {a : Asked} → Some NotFinite (handed a .numbers) → Applies p q a 2
+  out-of-limits : {a : Asked} → Some Outside (handed a .numbers) → Applies p q a 3
+  width-fixed : {w : Float} → 0 < length (p .boxes) → Applies p q (width w) 4
+  boxes-full : {c : Call} → 64 ≤ length (p .boxes) → Applies p q (box c) 5
+  too-far : {c : Call} → Some Passes (add binary32 (yOf p c) (cleaned c .height) ∷ add binary32 (spotOf p (cleaned c) .inset) (cleaned c .width) ∷ []) → Applies p q (box c) 6
+  sums-too-far : {w : Float} {s k : ℕ} (c : FloatIntrinsicWidthCalculator) → q ≡ Calculator.One c → c .available ≢ AvailableSpace.MinContent → Some Passes (sums c w s k) → Applies p q (add-box w s k) 6
+  bands-full : {c : Call} → T (hasHeight c) → 96 < length (madeOf p c .bands) → Applies p q (box c) 7
+  none-to-add-to : {w : Float} {s k : ℕ} → q ≡ Calculator.None → Applies p q (add-box w s k) 8
+  none-to-ask : q ≡ Calculator.None → Applies p q result 8
+  no-room : {t a : List ℕ} → length a < length (linesOf t) → Applies p q (lines t a) 13
+
+-- of several, the lowest
+abbrev pub Lowest : (ℕ → Type 0) → ℕ → Type 0
+Lowest P n = P n × ((m : ℕ) → m < n → ¬ P m)
