@@ -9,6 +9,7 @@ use lib.ListN.{length, getD}
 use Rattle.float.specs.declared.Done.{Done}
 use Rattle.float.specs.declared.FloatContext.{FloatContext}
 use Rattle.float.specs.declared.FloatDirection.{FloatDirection}
+use Rattle.float.specs.declared.FloatIntrinsicWidthCalculator.{FloatIntrinsicWidthCalculator}
 use Rattle.float.specs.declared.PlaceAnswer.{PlaceAnswer}
 use Rattle.float.specs.declared.Refusal.{Refusal}
 use Rattle.float.specs.declared.refuse.Check.{Check}
@@ -17,11 +18,12 @@ use Rattle.float.specs.Bands.{sameSide, other, lead, none}
 use Rattle.float.specs.Page.{Page, pageOf, stored}
 use Rattle.float.specs.Fit.{fits}
 use Rattle.float.specs.Place.{Call, cleaned, numbers, inputCheck, lowest, firstOf, askOf, spotOf, make, place, placedPage, placeOf, setWidth, widthOf, ifDone}
+use Rattle.float.specs.Calculator.{addOf}
 use Rattle.demands.specs.Runs.{Each, Pairs, Act, box, boxIn, next, run, after, pageIn, bandsIn, Stays, handed, Handed, F32, Whole64, insetAt, NoSmaller, EdgeToEdge, Parted, sideIn, containingLead, containingTrail, sized, shareHeight, overlap, fitsExactly, Joins, Page64}
 use Rattle.demands.proofs.Seek.{no-count}
 use Rattle.demands.proofs.Input.{cleaned-fits}
 use Rattle.demands.proofs.Whole.{StepsTo, spot-ok, place-ok}
-use Rattle.demands.proofs.Structs.{page-placed}
+use Rattle.demands.proofs.Structs.{page-placed, LeftAs, add-left}
 use Rattle.demands.proofs.Parts.{make-parts}
 use Rattle.demands.proofs.Exact.{fits-idle}
 use Rattle.demands.proofs.Whole64.{known64, ask64}
@@ -68,7 +70,7 @@ splits-inside os c f g e =
     let v = reached os f in
     make-parts (p .bands) (askOf p (cleaned c)) (firstOf p) (lowest p (cleaned c)) (spotOf p (cleaned c)) (no-count (p .bands)) (v .chain) (spot-ok p (after os .accepted) (cleaned c) v (passed c g e .0) (no-count (p .bands)) tt tt)
 
--- a refused call hands back the very struct, whichever it was given
+-- a refused call hands back the very struct, or the very calculator, whichever it was given
 pub refused-box : (p : FloatContext) (c : Call) (n : Refusal) → placeOf p c .answer ≡ PlaceAnswer.Refused n → placeOf p c .page ≡ p
 unfolding placeOf
 refused-box p c n e = subst (λ (a : PlaceAnswer). placedPage a (place (pageOf p) c .page) p ≡ p) (sym e) refl
@@ -76,6 +78,9 @@ refused-box p c n e = subst (λ (a : PlaceAnswer). placedPage a (place (pageOf p
 pub refused-width : (p : FloatContext) (w : Float) (n : Refusal) → widthOf p w .answer ≡ Done.Refused n → widthOf p w .page ≡ p
 unfolding widthOf
 refused-width p w n e = subst (λ (d : Done). ifDone d (stored (setWidth (pageOf p) w) p) p ≡ p) (sym e) refl
+
+pub refused-add : (c : FloatIntrinsicWidthCalculator) (w : Float) (side clear : ℕ) (n : Refusal) → addOf c w side clear .answer ≡ Done.Refused n → addOf c w side clear .calculator ≡ c
+refused-add c w side clear n e = subst (λ (d : Done). LeftAs c (record { answer = d; calculator = addOf c w side clear .calculator })) e (add-left c w side clear)
 
 -- rule 5: no box is put higher than an earlier one
 pub rule-5 : (os : List Act) → Handed F32 os → Pairs (λ a b. T (le (a .y) (b .y))) (after os .accepted)
