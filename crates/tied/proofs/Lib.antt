@@ -1,4 +1,4 @@
 -- The argument in the order in which it is told; Tied says that tape and promises are one, Tapes what is promised of every tape.
 pub mod Records
 pub mod Tied
-
+pub mod Tapes

@@ -1,19 +1,21 @@
 -- The records of a tape: more fuel reads no more of them, and every number that they hand in is an f32, by induction over the fuel.
 use Prim.Native.Nat.{ℕ, zero, suc, _+_, _≤_}
 use native.Mathlib.Omega.{arith}
-use mathlib.Core.Path.{_≡_, refl, ap}
+use mathlib.Core.Option.{Option, none, some}
+use mathlib.Core.Path.{_≡_, refl, ap, subst}
 use mathlib.Core.Bool.{Bool, true, false, _&&_, cond}
-use mathlib.Core.List.{List, [], _∷_, _++_, append-assoc, flatMap}
+use mathlib.Core.List.{List, [], _∷_, _++_, flatMap}
 use lib.Dec.{ltb, leb}
 use lib.Ieee.{binary32, ofBits}
 use lib.Ieee.Bits.{ofBits-fits}
-use lib.ListN.{length, take, drop, length-drop}
-use Rattle.demands.specs.Runs.{Each, Act, handed, Handed, F32}
+use lib.ListN.{length, take, drop, getElem?, length-drop}
+use Rattle.float.specs.Place.{Call}
+use Rattle.demands.specs.Runs.{Each, Act, box, handed, Handed, F32}
 use Rattle.tape.specs.declared.record.Read.{Read}
 use Rattle.tape.specs.declared.record.Record.{Record}
 use Rattle.tape.specs.Bytes.{f32At}
 use Rattle.tape.specs.Record.{bodyLens, bodyLen, recordOf, readOf}
-use Rattle.tied.specs.Acts.{callsIn, records, recordsOf, callsAt, callsNext}
+use Rattle.tied.specs.Acts.{placing, callsIn, records, recordsOf, RecordAt, callsAt, callsNext}
 
 -- ---- the fuel lasts
 same-records : (f g : ℕ) (t : List ℕ) → length t ≤ f → length t ≤ g → records f t ≡ records g t
@@ -47,6 +49,11 @@ module _ {A : Type 0} (P : A → Type 0) where
   each-drop zero l h = h
   each-drop (suc n) [] h = tt
   each-drop (suc n) (x ∷ l) h = each-drop n l (h .1)
+
+  each-at : (l : List A) (n : ℕ) (x : A) → getElem? l n ≡ some x → Each P l → P x
+  each-at [] n x e h = absurd (let z : _≡_ {A = ℕ} 0 1 = cc in omega arith)
+  each-at (y ∷ l) zero x e h = subst P (let z : y ≡ x = cc in z) (h .0)
+  each-at (y ∷ l) (suc n) x e h = each-at l n x e (h .1)
 
   -- of what each of another list makes
   each-made : {B : Type 0} (f : B → List A) (l : List B) → Each (λ x. Each P (f x)) l → Each P (flatMap f l)
@@ -89,3 +96,7 @@ tape-f32 t n = each-made (λ o. Each F32 (handed o)) callsIn (take n (recordsOf 
 
 pub next-f32 : (t : List ℕ) (n k : ℕ) → Handed F32 (callsNext t n k)
 next-f32 t n k = each-made (λ o. Each F32 (handed o)) callsIn (take k (drop n (recordsOf t))) (each-take Hands k (drop n (recordsOf t)) (each-drop Hands n (recordsOf t) (records-f32 (length t) t)))
+
+-- and those of one placement
+pub placed-f32 : (t : List ℕ) (n : ℕ) (c : Call) → RecordAt t n (placing c) → Each F32 (handed (box c))
+placed-f32 t n c e = each-at Hands (recordsOf t) n (placing c) e (records-f32 (length t) t) .0
