@@ -2,3 +2,4 @@
 pub mod Records
 pub mod Tied
 pub mod Tapes
+pub mod Room

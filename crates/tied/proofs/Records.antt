@@ -36,7 +36,7 @@ fuel-lasts f t h = same-records f (length t) t h (omega arith)
 
 -- ---- what holds of each of a list
 module _ {A : Type 0} (P : A → Type 0) where
-  each-append : (l m : List A) → Each P l → Each P m → Each P (l ++ m)
+  pub each-append : (l m : List A) → Each P l → Each P m → Each P (l ++ m)
   each-append [] m h g = g
   each-append (x ∷ l) m h g = (h .0, each-append l m (h .1) g)
 
@@ -56,7 +56,7 @@ module _ {A : Type 0} (P : A → Type 0) where
   each-at (y ∷ l) (suc n) x e h = each-at l n x e (h .1)
 
   -- of what each of another list makes
-  each-made : {B : Type 0} (f : B → List A) (l : List B) → Each (λ x. Each P (f x)) l → Each P (flatMap f l)
+  pub each-made : {B : Type 0} (f : B → List A) (l : List B) → Each (λ x. Each P (f x)) l → Each P (flatMap f l)
   unfolding flatMap
   each-made f [] h = tt
   each-made f (x ∷ l) h = each-append (f x) (flatMap f l) (h .0) (each-made f l (h .1))
@@ -66,10 +66,11 @@ number-f32 : (b : List ℕ) (i : ℕ) → F32 (f32At b i)
 unfolding f32At
 number-f32 b i = ofBits-fits binary32 _
 
-abbrev Hands : Record → Type 0
+-- what a record hands in
+abbrev pub Hands : Record → Type 0
 Hands q = Handed F32 (callsIn q)
 
-record-f32 : (k : ℕ) (b : List ℕ) → Hands (recordOf k b)
+pub record-f32 : (k : ℕ) (b : List ℕ) → Hands (recordOf k b)
 record-f32 zero b = (tt, tt)
 record-f32 (suc zero) b = ((number-f32 b 0, tt), tt)
 record-f32 (suc (suc zero)) b = ((number-f32 b 2, (number-f32 b 6, (number-f32 b 10, (number-f32 b 14, (number-f32 b 18, tt))))), tt)

@@ -58,10 +58,13 @@ state-page s r (q ∷ qs) e =
     state-page (stepOf s q .after) (run r (callsIn q)) qs (step-page s r q e)
     ∙ sym (ap (λ (x : Run). x .struct) (run-append r (callsIn q) (flatMap callsIn qs)))
 
+pub page-after : (qs : List Record) → stateAfter freshState qs .page ≡ after (flatMap callsIn qs) .struct
+unfolding freshState
+page-after qs = state-page freshState started qs refl
+
 -- after the first n records of a tape the page is that of the promises after their calls
 pub tape-page : (t : List ℕ) (n : ℕ) → stateAt t n .page ≡ runAt t n .struct
-unfolding freshState
-tape-page t n = state-page freshState started (take n (recordsOf t)) refl
+tape-page t n = page-after (take n (recordsOf t))
 
 -- ---- the lines
 run-lines : (f i : ℕ) (t : List ℕ) (s : State) → runTape f i t s ≡ flatten (linesFrom s (records f t)) ++ broken f i t

@@ -1,5 +1,5 @@
 -- A tape as a sequence of calls: its records, the calls that they make, the line of each, and what stands after the first n. Definitions only.
-use Prim.Native.Nat.{ℕ, zero, suc, _+_}
+use Prim.Native.Nat.{ℕ, zero, suc, _+_, _*_}
 use mathlib.Core.Path.{_≡_}
 use mathlib.Core.Option.{some}
 use mathlib.Core.List.{List, [], _∷_, foldl, flatMap}
@@ -82,3 +82,7 @@ runAt t n = after (callsAt t n)
 -- the calls of the k records after the first n
 abbrev pub callsNext : List ℕ → ℕ → ℕ → List Act
 callsNext t n k = flatMap callsIn (take k (drop n (recordsOf t)))
+
+-- room that is surely enough for its lines
+abbrev pub roomFor : List ℕ → ℕ
+roomFor t = 11 * length t
