@@ -3,7 +3,7 @@ use Prim.Native.Nat.{ℕ, zero, suc, _+_, _≤_}
 use native.Mathlib.Omega.{arith}
 use borrow.Author.Tests.{le-leb}
 use mathlib.Core.Logic.{_↔_}
-use mathlib.Core.Path.{_≡_, refl, sym, ap, _∙_}
+use mathlib.Core.Path.{_≡_, refl, sym, ap, _∙_, subst}
 use mathlib.Core.Option.{Option, none, some}
 use mathlib.Core.List.{List, [], _∷_, _++_, append-assoc, append-nil, append-cancel-left, head-eq-of-cons-eq, flatMap, flatten, foldl-append}
 use lib.Dec.{leb}
@@ -29,7 +29,7 @@ use Rattle.tape.specs.Bytes.{float, decimal, row}
 use Rattle.tape.specs.Record.{bodyLen, readOf}
 use Rattle.tape.specs.Lines.{doneLine, placeLine, refusedLine}
 use Rattle.tape.specs.Tape.{freshState, started as startedBy, addTo, stepOf, run as runTape, linesOf}
-use Rattle.tied.specs.Acts.{placing, callsIn, records, recordsOf, broken, brokenLine, stateAfter, linesFrom, RecordAt, lineAt, letter, stateAt, callsAt, runAt, callsNext}
+use Rattle.tied.specs.Acts.{placing, callsIn, records, recordsOf, broken, brokenLine, stateAfter, linesFrom, RecordAt, lineAt, PLine, RLine, stateAt, callsAt, runAt, callsNext}
 
 -- ---- the page
 
@@ -102,13 +102,9 @@ take-one [] n q e = absurd (let z : _≡_ {A = ℕ} 0 1 = cc in omega arith)
 take-one (p ∷ qs) zero q e = ap (λ (x : Record). x ∷ []) (let z : p ≡ q = cc in z)
 take-one (p ∷ qs) (suc n) q e = ap (λ (x : List Record). p ∷ x) (take-one qs n q e)
 
-module _ (t : List ℕ) (n : ℕ) (q : Record) (e : RecordAt t n q) where
-  -- the line of a record, and the state that it leaves, are what it does to the state before it
-  pub tape-line : lineAt t n ≡ stepOf (stateAt t n) q .line
-  tape-line = line-at freshState (recordsOf t) n q e
-
-  pub tape-state : stateAt t (suc n) ≡ stepOf (stateAt t n) q .after
-  tape-state = ap (stateAfter freshState) (take-one (recordsOf t) n q e) ∙ foldl-append (λ (x : State) (p : Record). stepOf x p .after) freshState (take n (recordsOf t)) (q ∷ [])
+-- the line of a record is what it prints on the page of the promises
+pub tape-line : (t : List ℕ) (n : ℕ) (q : Record) → RecordAt t n q → lineAt t n ≡ stepOf (record { page = runAt t n .struct; calculator = stateAt t n .calculator }) q .line
+tape-line t n q e = line-at freshState (recordsOf t) n q e ∙ ap (λ (p : FloatContext). stepOf (record { page = p; calculator = stateAt t n .calculator }) q .line) (tape-page t n)
 
 -- ---- calls after calls, of a tape
 made-append : (qs ps : List Record) → flatMap callsIn (qs ++ ps) ≡ flatMap callsIn qs ++ flatMap callsIn ps
@@ -136,7 +132,7 @@ longer : (g : List Accepted) (a : Accepted) → g ≡ g ++ a ∷ [] → ⊥
 longer g a e = let l = ap length e in let m = length-append g (a ∷ []) in omega arith
 
 module _ (g : List Accepted) (c : Call) (p : Page) where
-  noted-exactly : (d : PlaceAnswer) → (letter (placeLine d) ≡ 80) ↔ ((a : Accepted) × (noted d c p g ≡ g ++ a ∷ []))
+  noted-exactly : (d : PlaceAnswer) → (PLine (placeLine d)) ↔ ((a : Accepted) × (noted d c p g ≡ g ++ a ∷ []))
   unfolding placeLine refusedLine
   noted-exactly (PlaceAnswer.At x y k) = (λ l. (_, refl), λ a. refl)
   noted-exactly (PlaceAnswer.Refused n) = (λ l. absurd (omega arith), λ a. absurd (longer g (a .0) (a .1)))
@@ -152,14 +148,14 @@ module _ (t : List ℕ) (n : ℕ) (c : Call) (e : RecordAt t n (placing c)) wher
   -- the line of a placement is the answer of the one that the promises speak of
   pub place-line : lineAt t n ≡ placeLine (placeOf (runAt t n .struct) c .answer)
   unfolding stepOf
-  place-line = tape-line t n (placing c) e ∙ ap (λ (p : FloatContext). placeLine (placeOf p c .answer)) (tape-page t n)
+  place-line = tape-line t n (placing c) e
 
   accepted-next : runAt t (suc n) .accepted ≡ noted (placeOf (runAt t n .struct) c .answer) (cleaned c) (pageOf (placeOf (runAt t n .struct) c .page)) (runAt t n .accepted)
   unfolding run
   accepted-next = ap (λ (r : Run). r .accepted) (run-one t n (placing c) e)
 
   -- it is accepted, one more than were before, exactly when its line is a P line
-  pub accepted-exactly : (letter (lineAt t n) ≡ 80) ↔ ((a : Accepted) × (runAt t (suc n) .accepted ≡ runAt t n .accepted ++ a ∷ []))
+  pub accepted-exactly : (PLine (lineAt t n)) ↔ ((a : Accepted) × (runAt t (suc n) .accepted ≡ runAt t n .accepted ++ a ∷ []))
   accepted-exactly = rw (place-line, accepted-next) (noted-exactly (runAt t n .accepted) (cleaned c) _ _)
 
   -- the P line prints where it then stands
@@ -169,28 +165,28 @@ module _ (t : List ℕ) (n : ℕ) (c : Call) (e : RecordAt t n (placing c)) wher
 -- ---- refusals
 
 -- a line R comes of a refusal
-done-refused : (l : ℕ) (d : Done) → (l ≡ 82 → ⊥) → letter (doneLine l d) ≡ 82 → (n : Refusal) × (d ≡ Done.Refused n)
+done-refused : (l : ℕ) (d : Done) → (l ≡ 82 → ⊥) → RLine (doneLine l d) → (n : Refusal) × (d ≡ Done.Refused n)
 unfolding doneLine
 done-refused l Done.Accepted h e = absurd (h e)
 done-refused l (Done.Refused n) h e = (n, refl)
 
-place-refused : (d : PlaceAnswer) → letter (placeLine d) ≡ 82 → (n : Refusal) × (d ≡ PlaceAnswer.Refused n)
+place-refused : (d : PlaceAnswer) → RLine (placeLine d) → (n : Refusal) × (d ≡ PlaceAnswer.Refused n)
 unfolding placeLine
 place-refused (PlaceAnswer.At x y k) e = absurd (omega arith)
 place-refused (PlaceAnswer.Refused n) e = (n, refl)
 
-start-left : (c : Calculator) (a : CalculatorAnswer) → letter (startedBy c a .line) ≡ 82 → startedBy c a .after ≡ c
+start-left : (c : Calculator) (a : CalculatorAnswer) → RLine (startedBy c a .line) → startedBy c a .after ≡ c
 unfolding startedBy
 start-left c (CalculatorAnswer.Started new) e = absurd (omega arith)
 start-left c (CalculatorAnswer.Refused n) e = refl
 
-add-left : (c : Calculator) (w : Float) (side clear : ℕ) → letter (addTo c w side clear .line) ≡ 82 → addTo c w side clear .after ≡ c
+add-left : (c : Calculator) (w : Float) (side clear : ℕ) → RLine (addTo c w side clear .line) → addTo c w side clear .after ≡ c
 unfolding addTo
 add-left Calculator.None w side clear e = refl
 add-left (Calculator.One c) w side clear e = let r = done-refused 65 (addOf c w side clear .answer) (λ h. omega arith) e in ap Calculator.One (refused-add c w side clear (r .0) (r .1))
 
 -- a record whose line is R leaves page and calculator, whatever they are
-pub refused-record : (s : State) (q : Record) → letter (stepOf s q .line) ≡ 82 → stepOf s q .after ≡ s
+pub refused-record : (s : State) (q : Record) → RLine (stepOf s q .line) → stepOf s q .after ≡ s
 unfolding stepOf
 refused-record s Record.Fresh e = absurd (omega arith)
 refused-record s (Record.Width w) e =
@@ -206,5 +202,12 @@ refused-record s (Record.Start mode w) e = ap (λ (c : Calculator). record { pag
 refused-record s (Record.Add w side clear) e = ap (λ (c : Calculator). record { page = s .page; calculator = c }) (add-left (s .calculator) w side clear e)
 refused-record s Record.Result e = refl
 
-pub tape-refused : (t : List ℕ) (n : ℕ) (q : Record) → RecordAt t n q → letter (lineAt t n) ≡ 82 → stateAt t (suc n) ≡ stateAt t n
-tape-refused t n q e h = tape-state t n q e ∙ refused-record (stateAt t n) q (ap letter (sym (tape-line t n q e)) ∙ h)
+refused-at : (s : State) (qs : List Record) (n : ℕ) → RLine (getD (linesFrom s qs) n []) → stateAfter s (take (suc n) qs) ≡ stateAfter s (take n qs)
+unfolding linesFrom
+refused-at s [] n h = absurd (omega arith)
+refused-at s (q ∷ qs) zero h = refused-record s q h
+refused-at s (q ∷ qs) (suc n) h = refused-at (stepOf s q .after) qs n h
+
+-- so it is with every R of a tape
+pub tape-refused : (t : List ℕ) (n : ℕ) → RLine (lineAt t n) → stateAt t (suc n) ≡ stateAt t n
+tape-refused t n = refused-at freshState (recordsOf t) n

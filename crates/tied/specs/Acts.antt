@@ -56,18 +56,22 @@ unfoldable pub linesFrom : State → List Record → List (List ℕ)
 linesFrom s [] = []
 linesFrom s (q ∷ qs) = stepOf s q .line ∷ linesFrom (stepOf s q .after) qs
 
--- ---- on the tape t; n counts its records from 0
+-- a line by its letter: P, a position; R, a refusal
+abbrev pub PLine : List ℕ → Type 0
+PLine l = getD l 0 0 ≡ 80
+
+abbrev pub RLine : List ℕ → Type 0
+RLine l = getD l 0 0 ≡ 82
+
+-- ---- of the tape t; its records are counted from 0
 
 -- the record n is q
 abbrev pub RecordAt : List ℕ → ℕ → Record → Type 0
 RecordAt t n q = getElem? (recordsOf t) n ≡ some q
 
--- the line of the record n, and a line's letter
+-- its line
 abbrev pub lineAt : List ℕ → ℕ → List ℕ
 lineAt t n = getD (linesFrom freshState (recordsOf t)) n []
-
-abbrev pub letter : List ℕ → ℕ
-letter l = getD l 0 0
 
 -- after the first n records: page and calculator; the calls that they made; the page of the promises, with what they accepted since it was fresh
 abbrev pub stateAt : List ℕ → ℕ → State
