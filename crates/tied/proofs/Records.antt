@@ -1,20 +1,22 @@
--- The records of a tape: more fuel reads no more of them, and every number that they hand in is an f32, by induction over the fuel.
-use Prim.Native.Nat.{ℕ, zero, suc, _+_, _≤_}
+-- The records of a tape, by induction over the fuel: more fuel reads no more of them, more bytes leave the first of them, and every number that they hand in is an f32.
+use Prim.Native.Nat.{ℕ, zero, suc, _+_, _≤_, _<_}
 use native.Mathlib.Omega.{arith}
-use mathlib.Core.Option.{Option, none, some}
+use borrow.Author.Tests.{leb-true, leb-false}
+use mathlib.Core.Option.{some}
 use mathlib.Core.Path.{_≡_, refl, ap, subst}
 use mathlib.Core.Bool.{Bool, true, false, _&&_, cond}
 use mathlib.Core.List.{List, [], _∷_, _++_, flatMap}
 use lib.Dec.{ltb, leb}
-use lib.Ieee.{binary32, ofBits}
+use lib.Ieee.{binary32}
 use lib.Ieee.Bits.{ofBits-fits}
-use lib.ListN.{length, take, drop, getElem?, length-drop}
+use lib.ListN.{length, take, drop, getD, getElem?, length-drop, length-append, List·getD-append}
+use lib.Seq.{drop-append-le}
 use Rattle.float.specs.Place.{Call}
-use Rattle.demands.specs.Runs.{Each, Act, box, handed, Handed, F32}
+use Rattle.demands.specs.Runs.{Each, box, handed, Handed, F32}
 use Rattle.tape.specs.declared.record.Read.{Read}
 use Rattle.tape.specs.declared.record.Record.{Record}
 use Rattle.tape.specs.Bytes.{f32At}
-use Rattle.tape.specs.Record.{bodyLens, bodyLen, recordOf, readOf}
+use Rattle.tape.specs.Record.{bodyLens, bodyLen, afterAt, recordOf, readOf}
 use Rattle.tied.specs.Acts.{placing, callsIn, records, recordsOf, RecordAt, callsAt, callsNext}
 
 -- ---- the fuel lasts
@@ -33,6 +35,72 @@ same-records (suc f) (suc g) (k ∷ b) h e =
 -- each record takes a byte at least: whatever more fuel there is, the records are the same
 pub fuel-lasts : (f : ℕ) (t : List ℕ) → length t ≤ f → records f t ≡ recordsOf t
 fuel-lasts f t h = same-records f (length t) t h (omega arith)
+
+-- ---- a tape that goes on begins with the same records
+module _ (b u : List ℕ) where
+  f32-more : (i : ℕ) → i + 4 ≤ length b → f32At (b ++ u) i ≡ f32At b i
+  unfolding f32At
+  f32-more i h =
+      let m = List·getD-append b u 0 i (omega arith) in
+      let n = List·getD-append b u 0 (i + 1) (omega arith) in
+      let o = List·getD-append b u 0 (i + 2) (omega arith) in
+      let p = List·getD-append b u 0 (i + 2 + 1) (omega arith) in
+      cc
+
+  after-more : (i : ℕ) → i + 2 ≤ length b → afterAt (b ++ u) i ≡ afterAt b i
+  unfolding afterAt
+  after-more i h =
+      let m = List·getD-append b u 0 i (omega arith) in
+      let n = List·getD-append b u 0 (i + 1) (omega arith) in
+      cc
+
+  byte-more : (i : ℕ) → i < length b → getD (b ++ u) i 0 ≡ getD b i 0
+  byte-more i h = List·getD-append b u 0 i h
+
+  record-more : (k : ℕ) → bodyLen k ≤ length b → recordOf k (b ++ u) ≡ recordOf k b
+  record-more zero h = refl
+  record-more (suc zero) h = cc (f32-more 0 h)
+  record-more (suc (suc zero)) h = cc (byte-more 0 (omega arith), byte-more 1 (omega arith), f32-more 2 (omega arith), f32-more 6 (omega arith), f32-more 10 (omega arith), f32-more 14 (omega arith), f32-more 18 h)
+  record-more (suc (suc (suc zero))) h = cc (f32-more 0 (omega arith), f32-more 4 (omega arith), f32-more 8 (omega arith), byte-more 12 (omega arith), after-more 13 h)
+  record-more (suc (suc (suc (suc zero)))) h =
+      cc (f32-more 0 (omega arith), f32-more 4 (omega arith), f32-more 8 (omega arith), f32-more 12 (omega arith), f32-more 16 (omega arith), byte-more 20 (omega arith), byte-more 21 (omega arith), after-more 22 h)
+  record-more (suc (suc (suc (suc (suc zero))))) h = cc (byte-more 0 (omega arith), f32-more 1 h)
+  record-more (suc (suc (suc (suc (suc (suc zero)))))) h = cc (f32-more 0 (omega arith), byte-more 4 (omega arith), byte-more 5 h)
+  record-more (suc (suc (suc (suc (suc (suc (suc zero))))))) h = refl
+  record-more (suc (suc (suc (suc (suc (suc (suc (suc k)))))))) h = refl
+
+more-records : (f g : ℕ) (t u : List ℕ) → length t ≤ f → length (t ++ u) ≤ g → (qs : List Record) × (records g (t ++ u) ≡ records f t ++ qs)
+unfolding records readOf
+more-records zero g [] u h e = (records g u, refl)
+more-records zero g (k ∷ b) u h e = absurd (omega arith)
+more-records (suc f) g [] u h e = (records g u, refl)
+more-records (suc f) zero (k ∷ b) u h e = absurd (omega arith)
+more-records (suc f) (suc g) (k ∷ b) u h e =
+    let m = length-append b u in
+    let n = length-drop (bodyLen k) b in
+    let o = length-append (drop (bodyLen k) b) u in
+    go (ltb k (length bodyLens)) (leb (bodyLen k) (length b)) (leb (bodyLen k) (length (b ++ u))) refl refl (more-records f g (drop (bodyLen k) b) u (omega arith) (omega arith))
+  where
+    go : (x y z : Bool) → leb (bodyLen k) (length b) ≡ y → leb (bodyLen k) (length (b ++ u)) ≡ z
+        → (qs : List Record) × (records g (drop (bodyLen k) b ++ u) ≡ records f (drop (bodyLen k) b) ++ qs)
+        → (qs : List Record) × ((elim (cond (x && z) (Read.Whole (recordOf k (b ++ u))) Read.Broken) [ Read.Whole q ↦ q ∷ records g (drop (bodyLen k) (b ++ u)) | Read.Broken ↦ [] ]) ≡ (elim (cond (x && y) (Read.Whole (recordOf k b)) Read.Broken) [ Read.Whole q ↦ q ∷ records f (drop (bodyLen k) b) | Read.Broken ↦ [] ]) ++ qs)
+    go true true true ey ez r =
+        let l = leb-true (bodyLen k) (length b) ey in
+        let a = record-more b u k l in
+        let d = drop-append-le (bodyLen k) b u l in
+        let i = r .1 in
+        (r .0, (cc))
+    go true true false ey ez r =
+        let l = leb-true (bodyLen k) (length b) ey in
+        let m = leb-false (bodyLen k) (length (b ++ u)) ez in
+        let n = length-append b u in
+        absurd (omega arith)
+    go true false z ey ez r = (_, refl)
+    go false y z ey ez r = ([], refl)
+
+-- whatever bytes follow
+pub tape-more : (t u : List ℕ) → (qs : List Record) × (recordsOf (t ++ u) ≡ recordsOf t ++ qs)
+tape-more t u = more-records (length t) (length (t ++ u)) t u (omega arith) (omega arith)
 
 -- ---- what holds of each of a list
 module _ {A : Type 0} (P : A → Type 0) where

@@ -3,12 +3,12 @@ use Prim.Native.Nat.{ℕ, zero, suc, _+_, _*_, _≤_, _<_}
 use native.Mathlib.Omega.{arith}
 use borrow.Author.Tests.{le-leb, leb-true, leb-false}
 use mathlib.Core.Bool.{Bool, true, false, _&&_, cond}
-use mathlib.Core.Logic.{_⊎_, ⊎-elim}
-use mathlib.Core.Path.{_≡_, refl, sym, ap, _∙_, subst}
+use mathlib.Core.Logic.{⊎-elim}
+use mathlib.Core.Path.{_≡_, refl, sym, ap, subst}
 use mathlib.Core.List.{List, [], _∷_, _++_, flatMap, foldl-append}
-use lib.Dec.{T, ltb, leb, ltb→lt}
+use lib.Dec.{ltb, leb, ltb→lt}
 use lib.Ieee.{Float, binary32, toBits}
-use lib.IntN.{ℤ, pos}
+use lib.IntN.{pos}
 use lib.ListN.{length, drop, length-append, length-drop}
 use Rattle.f32_laws.proofs.Tests.{both}
 use Rattle.float.specs.declared.BandNumber.{BandNumber}
@@ -25,15 +25,15 @@ use Rattle.float.specs.declared.slot.Sought.{Sought}
 use Rattle.float.specs.Page.{Page, pageOf, front}
 use Rattle.float.specs.Place.{Call, placeOf}
 use Rattle.float.specs.Slot.{active, landed, seek, contentSlot, ContentCall, content, bfcSlot, BfcCall, bfc}
-use Rattle.demands.specs.Runs.{Each, Act, box, handed, Handed, F32, after, bandsIn}
+use Rattle.demands.specs.Runs.{Each, box, handed, Handed, F32, after}
 use Rattle.demands.proofs.Input.{check-both}
 use Rattle.demands.proofs.Promises.{bands-lie, steps-at-most}
 use Rattle.tape.specs.declared.record.Read.{Read}
 use Rattle.tape.specs.declared.record.Record.{Record}
 use Rattle.tape.specs.declared.step.State.{State}
-use Rattle.tape.specs.Bytes.{float, digits, decimal, decimals, fields, row}
+use Rattle.tape.specs.Bytes.{float, decimal, decimals, fields, row}
 use Rattle.tape.specs.Record.{bodyLens, bodyLen, recordOf, readOf}
-use Rattle.tape.specs.Lines.{refusedLine, placeLine, band, contentLine, bfcLine}
+use Rattle.tape.specs.Lines.{placeLine, band, contentLine, bfcLine}
 use Rattle.tape.specs.Tape.{freshState, stepOf, run as runTape, linesOf, returned, filled}
 use Rattle.tape.proofs.Digits.{length-digits, at-most}
 use Rattle.tape.proofs.Lengths.{length-refused, by-kind, length-offset}

@@ -1,24 +1,17 @@
 -- The promises of every tape, whatever its bytes: each cites the promise of the calls that its first n records make. To read them takes the definitions and no other proof.
-use Prim.Native.Nat.{ℕ, zero, suc, _+_, _≤_, _<_}
-use native.Mathlib.Omega.{arith}
+use Prim.Native.Nat.{ℕ, suc, _+_, _≤_}
 use mathlib.Core.Bool.{true, not}
-use mathlib.Core.Path.{_≡_, refl, sym, ap, _∙_, subst}
-use mathlib.Core.Option.{Option, none, some}
-use mathlib.Core.List.{List, [], map}
+use mathlib.Core.Path.{_≡_}
+use mathlib.Core.List.{List, map}
 use lib.Dec.{T}
-use lib.Ieee.{Float, inf, binary32, add, sub, lt, le}
-use lib.ListN.{length, take, getD, getElem?}
-use Rattle.float.specs.declared.Done.{Done}
-use Rattle.float.specs.declared.FloatContext.{FloatContext}
-use Rattle.float.specs.declared.FloatDirection.{FloatDirection}
+use lib.Ieee.{Float, inf, binary32, add, sub, le}
+use lib.ListN.{length}
 use Rattle.float.specs.declared.PlaceAnswer.{PlaceAnswer}
 use Rattle.float.specs.Bands.{sameSide}
-use Rattle.float.specs.Page.{Page}
 use Rattle.float.specs.Place.{Call, placeOf}
-use Rattle.demands.specs.Runs.{Each, Pairs, Act, newPage, width, box, boxIn, Run, next, run, pageIn, bandsIn, Stays, handed, Handed, F32, Whole64, NoSmaller, EdgeToEdge, sideIn, containingLead, containingTrail, sized, shareHeight, overlap, Page64}
+use Rattle.demands.specs.Runs.{Each, Pairs, width, boxIn, run, pageIn, bandsIn, Stays, Handed, Whole64, NoSmaller, EdgeToEdge, sideIn, containingLead, containingTrail, sized, shareHeight, overlap, Page64}
 use Rattle.demands.proofs.Promises.{bands-lie, boxes-kept, no-inset-smaller, two-bands-more, steps-at-most, rule-1, rule-5, page-in-64ths, rule-7, no-overlap}
-use Rattle.tape.specs.declared.record.Record.{Record}
-use Rattle.tied.specs.Acts.{placing, callsIn, recordsOf, RecordAt, callsAt, runAt, callsNext}
+use Rattle.tied.specs.Acts.{placing, RecordAt, callsAt, runAt, callsNext}
 use Rattle.tied.proofs.Records.{tape-f32, next-f32, placed-f32}
 use Rattle.tied.proofs.Tied.{run-next, run-one}
 

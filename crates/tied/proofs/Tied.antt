@@ -3,23 +3,21 @@ use Prim.Native.Nat.{ℕ, zero, suc, _+_, _≤_}
 use native.Mathlib.Omega.{arith}
 use borrow.Author.Tests.{le-leb}
 use mathlib.Core.Logic.{_↔_}
-use mathlib.Core.Path.{_≡_, refl, sym, ap, _∙_, subst}
-use mathlib.Core.Option.{Option, none, some}
-use mathlib.Core.List.{List, [], _∷_, _++_, append-assoc, append-nil, append-cancel-left, head-eq-of-cons-eq, flatMap, flatten, foldl-append}
-use lib.Dec.{leb}
+use mathlib.Core.Path.{_≡_, refl, sym, ap, _∙_}
+use mathlib.Core.Option.{some}
+use mathlib.Core.List.{List, [], _∷_, _++_, append-assoc, append-nil, append-cancel-left, head-eq-of-cons-eq, flatMap, flatten}
 use lib.Ieee.{Float}
 use lib.ListN.{length, take, drop, getD, getElem?, length-append}
-use lib.Seq.{take-add}
+use lib.Seq.{take-add, take-append-le}
 use Rattle.float.specs.declared.CalculatorAnswer.{CalculatorAnswer}
 use Rattle.float.specs.declared.Done.{Done}
 use Rattle.float.specs.declared.FloatContext.{FloatContext}
-use Rattle.float.specs.declared.FloatIntrinsicWidthCalculator.{FloatIntrinsicWidthCalculator}
 use Rattle.float.specs.declared.PlaceAnswer.{PlaceAnswer}
 use Rattle.float.specs.declared.Refusal.{Refusal}
 use Rattle.float.specs.Page.{Page, pageOf}
 use Rattle.float.specs.Place.{Call, cleaned, placeOf, widthOf}
 use Rattle.float.specs.Calculator.{addOf}
-use Rattle.demands.specs.Runs.{Act, box, Accepted, Run, noted, started, next, run, after}
+use Rattle.demands.specs.Runs.{Act, Accepted, Run, noted, started, next, run, after}
 use Rattle.demands.proofs.Promises.{refused-box, refused-width, refused-add}
 use Rattle.tape.specs.declared.record.Read.{Read}
 use Rattle.tape.specs.declared.record.Record.{Record}
@@ -29,7 +27,8 @@ use Rattle.tape.specs.Bytes.{float, decimal, row}
 use Rattle.tape.specs.Record.{bodyLen, readOf}
 use Rattle.tape.specs.Lines.{doneLine, placeLine, refusedLine}
 use Rattle.tape.specs.Tape.{freshState, started as startedBy, addTo, stepOf, run as runTape, linesOf}
-use Rattle.tied.specs.Acts.{placing, callsIn, records, recordsOf, broken, brokenLine, stateAfter, linesFrom, RecordAt, lineAt, PLine, RLine, stateAt, callsAt, runAt, callsNext}
+use Rattle.tied.specs.Acts.{placing, callsIn, records, recordsOf, broken, brokenLine, stateAfter, linesFrom, RecordAt, lineAt, PLine, RLine, stateAt, runAt, callsNext}
+use Rattle.tied.proofs.Records.{tape-more}
 
 -- ---- the page
 
@@ -65,6 +64,12 @@ page-after qs = state-page freshState started qs refl
 -- after the first n records of a tape the page is that of the promises after their calls
 pub tape-page : (t : List ℕ) (n : ℕ) → stateAt t n .page ≡ runAt t n .struct
 tape-page t n = page-after (take n (recordsOf t))
+
+-- and it is the same on a tape that goes on with the bytes u
+pub run-more : (t u : List ℕ) (n : ℕ) → n ≤ length (recordsOf t) → runAt (t ++ u) n ≡ runAt t n
+run-more t u n h =
+    let m = tape-more t u in
+    ap (λ (qs : List Record). after (flatMap callsIn (take n qs))) (m .1) ∙ ap (λ (qs : List Record). after (flatMap callsIn qs)) (take-append-le n (recordsOf t) (m .0) h)
 
 -- ---- the lines
 run-lines : (f i : ℕ) (t : List ℕ) (s : State) → runTape f i t s ≡ flatten (linesFrom s (records f t)) ++ broken f i t
