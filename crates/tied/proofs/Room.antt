@@ -38,7 +38,7 @@ use Rattle.tape.specs.Tape.{freshState, stepOf, run as runTape, linesOf, return
 use Rattle.tape.proofs.Digits.{length-digits, at-most}
 use Rattle.tape.proofs.Lengths.{length-refused, by-kind, length-offset}
 use Rattle.tied.specs.Acts.{callsIn, stateAfter, roomFor}
-use Rattle.tied.proofs.Records.{Hands, record-f32, each-append, each-made}
+use Rattle.tied.proofs.Handed.{Hands, record-f32, each-append, each-made}
 use Rattle.tied.proofs.Tied.{page-after}
 
 -- ---- a line whose fields have at most eight bytes

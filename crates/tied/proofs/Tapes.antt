@@ -9,10 +9,10 @@ use lib.ListN.{length}
 use Rattle.float.specs.declared.PlaceAnswer.{PlaceAnswer}
 use Rattle.float.specs.Bands.{sameSide}
 use Rattle.float.specs.Place.{Call, placeOf}
-use Rattle.demands.specs.Runs.{Each, Pairs, width, boxIn, run, pageIn, bandsIn, Stays, Handed, Whole64, NoSmaller, EdgeToEdge, sideIn, containingLead, containingTrail, sized, shareHeight, overlap, Page64}
+use Rattle.demands.specs.Runs.{Each, Pairs, boxIn, run, pageIn, bandsIn, Stays, Handed, Whole64, NoSmaller, EdgeToEdge, sideIn, containingLead, containingTrail, sized, shareHeight, overlap, Page64}
 use Rattle.demands.proofs.Promises.{bands-lie, boxes-kept, no-inset-smaller, two-bands-more, steps-at-most, rule-1, rule-5, page-in-64ths, rule-7, no-overlap}
 use Rattle.tied.specs.Acts.{placing, RecordAt, callsAt, runAt, callsNext}
-use Rattle.tied.proofs.Records.{tape-f32, next-f32, placed-f32}
+use Rattle.tied.proofs.Handed.{tape-f32, next-f32, placed-f32}
 use Rattle.tied.proofs.Tied.{run-next, run-one}
 
 -- ---- any numbers: after the first n records of the tape t

@@ -8,7 +8,7 @@ use mathlib.Core.Option.{some}
 use mathlib.Core.List.{List, [], _∷_, _++_, append-assoc, append-nil, append-cancel-left, head-eq-of-cons-eq, flatMap, flatten}
 use lib.Ieee.{Float}
 use lib.ListN.{length, take, drop, getD, getElem?, length-append}
-use lib.Seq.{take-add, take-append-le}
+use lib.Seq.{take-add}
 use Rattle.float.specs.declared.CalculatorAnswer.{CalculatorAnswer}
 use Rattle.float.specs.declared.Done.{Done}
 use Rattle.float.specs.declared.FloatContext.{FloatContext}
@@ -28,7 +28,6 @@ use Rattle.tape.specs.Record.{bodyLen, readOf}
 use Rattle.tape.specs.Lines.{doneLine, placeLine, refusedLine}
 use Rattle.tape.specs.Tape.{freshState, started as startedBy, addTo, stepOf, run as runTape, linesOf}
 use Rattle.tied.specs.Acts.{placing, callsIn, records, recordsOf, broken, brokenLine, stateAfter, linesFrom, RecordAt, lineAt, PLine, RLine, stateAt, runAt, callsNext}
-use Rattle.tied.proofs.Records.{tape-more}
 
 -- ---- the page
 
@@ -64,12 +63,6 @@ page-after qs = state-page freshState started qs refl
 -- after the first n records of a tape the page is that of the promises after their calls
 pub tape-page : (t : List ℕ) (n : ℕ) → stateAt t n .page ≡ runAt t n .struct
 tape-page t n = page-after (take n (recordsOf t))
-
--- and it is the same on a tape that goes on with the bytes u
-pub run-more : (t u : List ℕ) (n : ℕ) → n ≤ length (recordsOf t) → runAt (t ++ u) n ≡ runAt t n
-run-more t u n h =
-    let m = tape-more t u in
-    ap (λ (qs : List Record). after (flatMap callsIn (take n qs))) (m .1) ∙ ap (λ (qs : List Record). after (flatMap callsIn qs)) (take-append-le n (recordsOf t) (m .0) h)
 
 -- ---- the lines
 run-lines : (f i : ℕ) (t : List ℕ) (s : State) → runTape f i t s ≡ flatten (linesFrom s (records f t)) ++ broken f i t
@@ -139,7 +132,7 @@ longer g a e = let l = ap length e in let m = length-append g (a ∷ []) in omeg
 module _ (g : List Accepted) (c : Call) (p : Page) where
   noted-exactly : (d : PlaceAnswer) → (PLine (placeLine d)) ↔ ((a : Accepted) × (noted d c p g ≡ g ++ a ∷ []))
   unfolding placeLine refusedLine
-  noted-exactly (PlaceAnswer.At x y k) = (λ l. (_, refl), λ a. refl)
+  noted-exactly (PlaceAnswer.At x y k) = (λ l. (_, refl), λ a. omega arith)
   noted-exactly (PlaceAnswer.Refused n) = (λ l. absurd (omega arith), λ a. absurd (longer g (a .0) (a .1)))
 
   noted-as : (d : PlaceAnswer) (a : Accepted) → noted d c p g ≡ g ++ a ∷ [] → (k : ℕ) × (placeLine d ≡ row 80 (float (a .x) ∷ float (a .y) ∷ decimal k ∷ [])) × (a .call ≡ c)
@@ -170,7 +163,7 @@ module _ (t : List ℕ) (n : ℕ) (c : Call) (e : RecordAt t n (placing c)) wher
 -- ---- refusals
 
 -- a line R comes of a refusal
-done-refused : (l : ℕ) (d : Done) → (l ≡ 82 → ⊥) → RLine (doneLine l d) → (n : Refusal) × (d ≡ Done.Refused n)
+done-refused : (l : ℕ) (d : Done) → (RLine (l ∷ []) → ⊥) → RLine (doneLine l d) → (n : Refusal) × (d ≡ Done.Refused n)
 unfolding doneLine
 done-refused l Done.Accepted h e = absurd (h e)
 done-refused l (Done.Refused n) h e = (n, refl)

@@ -30,7 +30,7 @@ callsIn (Record.Start mode w) = []
 callsIn (Record.Add w side clear) = []
 callsIn Record.Result = []
 
--- the records of a tape, up to the first that is broken
+-- the records of a tape, up to the first that is broken; each takes a byte at least, so the fuel lasts (`fuel-lasts`)
 unfoldable pub records : ℕ → List ℕ → List Record
 records zero t = []
 records (suc f) [] = []
@@ -39,7 +39,7 @@ records (suc f) (k ∷ body) = elim (readOf k body) [ Read.Whole q ↦ q ∷ rec
 abbrev pub recordsOf : List ℕ → List Record
 recordsOf t = records (length t) t
 
--- the line T of the part of a tape that begins at the offset i, where a record of it is broken
+-- the line T of the first that is broken, or nothing; i is the offset at which this part of the tape begins
 unfoldable pub broken : ℕ → ℕ → List ℕ → List ℕ
 broken zero i t = []
 broken (suc f) i [] = []
@@ -73,7 +73,7 @@ RecordAt t n q = getElem? (recordsOf t) n ≡ some q
 abbrev pub lineAt : List ℕ → ℕ → List ℕ
 lineAt t n = getD (linesFrom freshState (recordsOf t)) n []
 
--- after the first n records: page and calculator; the calls that they made; the page of the promises, with what they accepted since it was fresh
+-- after the first n records: page and calculator; the calls that they made; the page that the promises speak of, with what was accepted since it was fresh
 abbrev pub stateAt : List ℕ → ℕ → State
 stateAt t n = stateAfter freshState (take n (recordsOf t))
 
