@@ -39,7 +39,7 @@ use Rattle.tape.proofs.Digits.{length-digits, at-most}
 use Rattle.tape.proofs.Lengths.{length-refused, by-kind, length-offset}
 use Rattle.tied.specs.Acts.{callsIn, stateAfter, roomFor}
 use Rattle.tied.proofs.Handed.{Hands, record-f32, each-append, each-made}
-use Rattle.tied.proofs.Tied.{page-after}
+use Rattle.tied.proofs.Calls.{page-after}
 
 -- ---- a line whose fields have at most eight bytes
 fields-short : (fs : List (List ℕ)) → Each (λ f. length f ≤ 8) fs → length (fields fs) ≤ 9 * length fs + 1
@@ -152,7 +152,7 @@ module _ (qs : List Record) (f : Each Hands qs) where
   line-short : (k : ℕ) (b : List ℕ) → length (stepOf (stateAfter freshState qs) (recordOf k b) .line) ≤ 11 * suc (bodyLen k)
   line-short k b = ⊎-elim (λ h. let l = long-line k b h in omega arith) (λ l. omega arith) (by-kind (stateAfter freshState qs) k b)
 
-run-short : (f i : ℕ) (t : List ℕ) (qs : List Record) → Each Hands qs → i + length t ≤ 65536 → length (runTape f i t (stateAfter freshState qs)) ≤ 11 * length t
+run-short : (f i : ℕ) (t : List ℕ) (qs : List Record) → Each Hands qs → i + length t ≤ 65536 → length (runTape f i t (stateAfter freshState qs)) ≤ roomFor t
 unfolding runTape readOf
 run-short zero i t qs h g = omega arith
 run-short (suc f) i [] qs h g = omega arith
@@ -167,8 +167,8 @@ run-short (suc f) i (k ∷ b) qs h g = go (ltb k (length bodyLens)) (leb (bodyLe
     c : List ℕ
     c = drop (bodyLen k) b
 
-    go : (x y : Bool) → leb (bodyLen k) (length b) ≡ y → (j + length c ≤ 65536 → length (runTape f j c (stateAfter freshState (qs ++ recordOf k b ∷ []))) ≤ 11 * length c)
-        → length {A = ℕ} (elim (cond (x && y) (Read.Whole (recordOf k b)) Read.Broken) [ Read.Whole q ↦ stepOf s q .line ++ runTape f j c (stepOf s q .after) | Read.Broken ↦ row 84 (decimal i ∷ []) ]) ≤ 11 * suc (length b)
+    go : (x y : Bool) → leb (bodyLen k) (length b) ≡ y → (j + length c ≤ 65536 → length (runTape f j c (stateAfter freshState (qs ++ recordOf k b ∷ []))) ≤ roomFor c)
+        → length {A = ℕ} (elim (cond (x && y) (Read.Whole (recordOf k b)) Read.Broken) [ Read.Whole q ↦ stepOf s q .line ++ runTape f j c (stepOf s q .after) | Read.Broken ↦ row 84 (decimal i ∷ []) ]) ≤ roomFor (k ∷ b)
     go true true e r =
         let n = leb-true (bodyLen k) (length b) e in
         let d = length-drop (bodyLen k) b in
@@ -185,7 +185,7 @@ pub lines-at-most : (t : List ℕ) → length (linesOf t) ≤ roomFor t
 unfolding linesOf fields
 lines-at-most t = go (leb (length t) 65536) refl
   where
-    go : (x : Bool) → leb (length t) 65536 ≡ x → length {A = ℕ} (elim x [ true ↦ runTape (length t) 0 t freshState | false ↦ row 76 [] ]) ≤ 11 * length t
+    go : (x : Bool) → leb (length t) 65536 ≡ x → length {A = ℕ} (elim x [ true ↦ runTape (length t) 0 t freshState | false ↦ row 76 [] ]) ≤ roomFor t
     go true e = let l = leb-true (length t) 65536 e in run-short (length t) 0 t [] tt (omega arith)
     go false e = let l = leb-false (length t) 65536 e in omega arith
 
