@@ -9,6 +9,7 @@ pub mod Input
 pub mod Lists
 pub mod Whole
 pub mod Structs
+pub mod Adding
 pub mod Exact
 pub mod Bands64
 pub mod Apart

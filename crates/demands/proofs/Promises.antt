@@ -16,16 +16,17 @@ use Rattle.float.specs.declared.refuse.Check.{Check}
 use Rattle.float.specs.Refuse.{sideOf}
 use Rattle.float.specs.Bands.{sameSide, other, lead, none}
 use Rattle.float.specs.Page.{Page, pageOf, stored}
+use Rattle.float.specs.Calculator.{addOf}
 use Rattle.float.specs.Fit.{fits}
 use Rattle.float.specs.Place.{Call, cleaned, numbers, inputCheck, lowest, firstOf, askOf, spotOf, make, place, placedPage, placeOf, setWidth, widthOf, ifDone}
-use Rattle.float.specs.Calculator.{addOf}
 use Rattle.demands.specs.Runs.{Each, Pairs, Act, box, boxIn, next, run, after, pageIn, bandsIn, Stays, handed, Handed, F32, Whole64, insetAt, NoSmaller, EdgeToEdge, Parted, sideIn, containingLead, containingTrail, sized, shareHeight, overlap, fitsExactly, Joins, Page64}
 use Rattle.demands.proofs.Seek.{no-count}
 use Rattle.demands.proofs.Input.{cleaned-fits}
 use Rattle.demands.proofs.Whole.{StepsTo, spot-ok, place-ok}
-use Rattle.demands.proofs.Structs.{page-placed, LeftAs, add-left}
+use Rattle.demands.proofs.Structs.{page-placed}
 use Rattle.demands.proofs.Parts.{make-parts}
 use Rattle.demands.proofs.Exact.{fits-idle}
+use Rattle.demands.proofs.Adding.{LeftAs, add-left}
 use Rattle.demands.proofs.Whole64.{known64, ask64}
 use Rattle.demands.proofs.Reached.{reached, grown, reached64}
 use Rattle.demands.proofs.Edges.{seven, apart}

@@ -1,24 +1,17 @@
--- The struct holds the page that was stored in it, so a call on structs is the call on pages; and a refusal hands back the page, or the calculator.
-use Prim.Native.Nat.{ℕ}
+-- The struct holds the page that was stored in it, so a call on structs is the call on pages; and a refusal hands back the page.
 use mathlib.Core.Path.{_≡_, refl}
 use mathlib.Core.Bool.{_&&_}
 use lib.Dec.{ltb, leb}
-use lib.Ieee.{Float, binary32, add, eq}
+use lib.Ieee.{Float, eq}
 use lib.ListN.{length}
 use lib.Seq.{take-append-seam}
 use Rattle.f32_laws.specs.Numbers.{zero+}
 use Rattle.f32_laws.proofs.Tests.{both}
-use Rattle.float.specs.declared.Added.{Added}
-use Rattle.float.specs.declared.AvailableSpace.{AvailableSpace}
-use Rattle.float.specs.declared.Clear.{Clear}
 use Rattle.float.specs.declared.Done.{Done}
 use Rattle.float.specs.declared.FloatContext.{FloatContext}
-use Rattle.float.specs.declared.FloatDirection.{FloatDirection}
-use Rattle.float.specs.declared.FloatIntrinsicWidthCalculator.{FloatIntrinsicWidthCalculator}
 use Rattle.float.specs.declared.PlaceAnswer.{PlaceAnswer}
 use Rattle.float.specs.declared.search.Spot.{Spot}
-use Rattle.float.specs.Numbers.{plusZero, inReach}
-use Rattle.float.specs.Calculator.{summed, addedSums, added, addOf}
+use Rattle.float.specs.Numbers.{plusZero}
 use Rattle.float.specs.Page.{Page, fresh, pageOf, front, stored, freshContext, maxBands, maxBoxes}
 use Rattle.float.specs.Place.{Call, cleaned, numbers, Result, make, near, high, flat, put, askOf, spotOf, admitted, checked, place, placedPage, placeOf, widthCheck, withWidth, ifDone, setWidth, widthOf}
 use Rattle.demands.proofs.Input.{check-both}
@@ -67,20 +60,3 @@ page-widened p w = go (widthCheck (pageOf p .boxes) (plusZero w))
     go : (d : Done) → pageOf (ifDone d (stored (ifDone d (withWidth (pageOf p) (plusZero w)) (pageOf p)) p) p) ≡ ifDone d (withWidth (pageOf p) (plusZero w)) (pageOf p)
     go Done.Accepted = page-stored (withWidth (pageOf p) (plusZero w)) p
     go (Done.Refused n) = refl
-
--- ---- a refused add leaves the calculator
-abbrev pub LeftAs : FloatIntrinsicWidthCalculator → Added → Type 0
-LeftAs c r = elim (r .answer) [ Done.Accepted ↦ Unit {0} | Done.Refused n ↦ r .calculator ≡ c ]
-
-summed-left : (c : FloatIntrinsicWidthCalculator) (w l r : Float) → LeftAs c (summed c w l r)
-summed-left c w l r = both (LeftAs c) (inReach l && inReach r && inReach (add binary32 l r)) (λ t. tt) (λ t. refl)
-
-added-left : (c : FloatIntrinsicWidthCalculator) (w : Float) (s : FloatDirection) (k : Clear) (a : AvailableSpace) → LeftAs c (added c w s k a)
-unfolding added addedSums
-added-left c w s k AvailableSpace.MinContent = tt
-added-left c w s k AvailableSpace.MaxContent = summed-left c w _ _
-added-left c w s k (AvailableSpace.Definite a) = summed-left c w _ _
-
-pub add-left : (c : FloatIntrinsicWidthCalculator) (w : Float) (side clear : ℕ) → LeftAs c (addOf c w side clear)
-unfolding addOf
-add-left c w side clear = check-both (LeftAs c) _ _ (λ t u. added-left c _ _ _ (c .available)) (λ n. refl)
