@@ -26,7 +26,7 @@ use Rattle.float.specs.Page.{Page, pageOf, front}
 use Rattle.float.specs.Place.{Call, placeOf}
 use Rattle.float.specs.Slot.{active, landed, seek, contentSlot, ContentCall, content, bfcSlot, BfcCall, bfc}
 use Rattle.demands.specs.Runs.{Each, box, handed, Handed, F32, after}
-use Rattle.demands.proofs.Input.{check-both}
+use Rattle.demands.proofs.Adding.{check-ways}
 use Rattle.demands.proofs.Promises.{bands-lie, steps-at-most}
 use Rattle.tape.specs.declared.record.Read.{Read}
 use Rattle.tape.specs.declared.record.Record.{Record}
@@ -115,11 +115,11 @@ module _ (p : Page) (b : length (p .bands) ≤ 96) where
 
   content-short : (c : ContentCall) → length (contentLine (content p c)) ≤ 47
   unfolding content
-  content-short c = check-both (λ a. length (contentLine a) ≤ 47) _ _ (λ t u. content-slot p _ _ _ (seek-lands _ _ _)) content-refused
+  content-short c = check-ways (λ a. length (contentLine a) ≤ 47) _ _ (content-slot p _ _ _ (seek-lands _ _ _)) content-refused
 
   bfc-short : (c : BfcCall) → length (bfcLine (bfc p c)) ≤ 47
   unfolding bfc
-  bfc-short c = check-both (λ a. length (bfcLine a) ≤ 47) _ _ (λ t u. bfc-slot p _ _ _ _ _ _ (seek-lands _ _ _)) bfc-refused
+  bfc-short c = check-ways (λ a. length (bfcLine a) ≤ 47) _ _ (bfc-slot p _ _ _ _ _ _ (seek-lands _ _ _)) bfc-refused
 
 -- ---- the records of a tape
 
