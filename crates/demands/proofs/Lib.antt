@@ -17,6 +17,7 @@ pub mod Lists
 pub mod Whole
 pub mod Reach
 pub mod Structs
+pub mod Adding
 pub mod Exact
 pub mod Bands64
 pub mod Apart

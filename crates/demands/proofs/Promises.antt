@@ -12,6 +12,7 @@ use Rattle.float.specs.declared.ContentSlot.{ContentSlot}
 use Rattle.float.specs.declared.Done.{Done}
 use Rattle.float.specs.declared.FloatContext.{FloatContext}
 use Rattle.float.specs.declared.FloatDirection.{FloatDirection}
+use Rattle.float.specs.declared.FloatIntrinsicWidthCalculator.{FloatIntrinsicWidthCalculator}
 use Rattle.float.specs.declared.PlaceAnswer.{PlaceAnswer}
 use Rattle.float.specs.declared.Refusal.{Refusal}
 use Rattle.float.specs.declared.Segment.{Segment}
@@ -21,6 +22,7 @@ use Rattle.float.specs.Numbers.{plusZero, inReach}
 use Rattle.float.specs.Refuse.{sideOf}
 use Rattle.float.specs.Bands.{sameSide, other, lead, none}
 use Rattle.float.specs.Page.{Page, pageOf, stored}
+use Rattle.float.specs.Calculator.{addOf}
 use Rattle.float.specs.Fit.{fits}
 use Rattle.float.specs.Place.{Call, cleaned, numbers, inputCheck, askOf, spotOf, place, placedPage, placeOf, setWidth, widthOf, ifDone}
 use Rattle.float.specs.Slot.{content}
@@ -33,6 +35,7 @@ use Rattle.demands.proofs.Whole.{Lies, spot-in, place-ok}
 use Rattle.demands.proofs.Reach.{inset-in-reach, flat-not-6}
 use Rattle.demands.proofs.Structs.{page-placed}
 use Rattle.demands.proofs.Exact.{fits-idle}
+use Rattle.demands.proofs.Adding.{LeftAs, add-left}
 use Rattle.demands.proofs.Whole64.{known64, ask64}
 use Rattle.demands.proofs.Content.{Answers, content-told}
 use Rattle.demands.proofs.Reached.{reached, grown, reached64}
@@ -81,7 +84,7 @@ splits-inside os c f g e h =
 pub end-splits-inside : (a : Ask) (l : List Segment) (s e : ℕ) (y : Float) → e < length l → EndSplit a l s e y
 end-splits-inside = end-split
 
--- a refused call hands back the very struct, whichever it was given
+-- a refused call hands back the very struct, or the very calculator, whichever it was given
 pub refused-box : (p : FloatContext) (c : Call) (n : Refusal) → placeOf p c .answer ≡ PlaceAnswer.Refused n → placeOf p c .page ≡ p
 unfolding placeOf
 refused-box p c n e = subst (λ (a : PlaceAnswer). placedPage a (place (pageOf p) c .page) p ≡ p) (sym e) refl
@@ -89,6 +92,9 @@ refused-box p c n e = subst (λ (a : PlaceAnswer). placedPage a (place (pageOf p
 pub refused-width : (p : FloatContext) (w : Float) (n : Refusal) → widthOf p w .answer ≡ Done.Refused n → widthOf p w .page ≡ p
 unfolding widthOf
 refused-width p w n e = subst (λ (d : Done). ifDone d (stored (setWidth (pageOf p) w) p) p ≡ p) (sym e) refl
+
+pub refused-add : (c : FloatIntrinsicWidthCalculator) (w : Float) (side clear : ℕ) (n : Refusal) → addOf c w side clear .answer ≡ Done.Refused n → addOf c w side clear .calculator ≡ c
+refused-add c w side clear n e = subst (λ (d : Done). LeftAs c (record { answer = d; calculator = addOf c w side clear .calculator })) e (add-left c w side clear)
 
 -- rule 5: no box is put higher than an earlier one
 pub rule-5 : (os : List Act) → Handed F32 os → Pairs (λ a b. T (le (a .y) (b .y))) (after os .accepted)

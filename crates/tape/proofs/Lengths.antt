@@ -23,7 +23,7 @@ one-field : (c : ℕ) (f : List ℕ) → length (row c (f ∷ [])) ≡ 3 + lengt
 unfolding fields
 one-field c f = let e = length-append f (10 ∷ []) in omega arith
 
-length-refused : (n : Refusal) → length (refusedLine n) ≤ 11
+pub length-refused : (n : Refusal) → length (refusedLine n) ≤ 11
 unfolding refusedLine decimal decimals digits fields
 length-refused Refusal.UnknownCode = omega arith
 length-refused Refusal.NotFinite = omega arith

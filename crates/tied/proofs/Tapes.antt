@@ -1,0 +1,62 @@
+-- The promises of every tape, whatever its bytes: each cites the promise of the calls that its first n records make. To read them takes the definitions and no other proof.
+use Prim.Native.Nat.{ℕ, suc, _+_, _≤_}
+use mathlib.Core.Bool.{true, not}
+use mathlib.Core.Path.{_≡_}
+use mathlib.Core.List.{List, map}
+use lib.Dec.{T}
+use lib.Ieee.{Float, inf, binary32, add, sub, le}
+use lib.ListN.{length}
+use Rattle.float.specs.declared.PlaceAnswer.{PlaceAnswer}
+use Rattle.float.specs.Bands.{sameSide}
+use Rattle.float.specs.Place.{Call, placeOf}
+use Rattle.demands.specs.Runs.{Each, Pairs, boxIn, run, pageIn, bandsIn, Stays, Handed, Whole64, NoSmaller, EdgeToEdge, sideIn, containingLead, containingTrail, sized, shareHeight, overlap, Page64}
+use Rattle.demands.proofs.Promises.{bands-lie, boxes-kept, no-inset-smaller, two-bands-more, steps-at-most, rule-1, rule-5, page-in-64ths, rule-7, no-overlap}
+use Rattle.tied.specs.Acts.{placing, RecordAt, callsAt, runAt, callsNext}
+use Rattle.tied.proofs.Handed.{tape-f32, next-f32, placed-f32}
+use Rattle.tied.proofs.Calls.{run-next, run-one}
+
+-- ---- any numbers: after the first n records of the tape t
+
+-- the bands lie edge to edge from minus infinity, no start exceeds its end, and they are at most 96
+pub tape-bands-lie : (t : List ℕ) (n : ℕ) → EdgeToEdge (inf true) (bandsIn (runAt t n)) × (length (bandsIn (runAt t n)) ≤ 96)
+tape-bands-lie t n = bands-lie (callsAt t n) (tape-f32 t n)
+
+-- the page's boxes are those accepted, at most 64
+pub tape-boxes-kept : (t : List ℕ) (n : ℕ) → (pageIn (runAt t n) .boxes ≡ map boxIn (runAt t n .accepted)) × (length (pageIn (runAt t n) .boxes) ≤ 64)
+tape-boxes-kept t n = boxes-kept (callsAt t n) (tape-f32 t n)
+
+-- k records later, none of them a fresh page: at no height is an inset smaller
+pub tape-no-inset-smaller : (t : List ℕ) (n k : ℕ) → Each Stays (callsNext t n k) → NoSmaller (bandsIn (runAt t n)) (bandsIn (runAt t (n + k)))
+tape-no-inset-smaller t n k h = rw (run-next t n k) (no-inset-smaller (callsAt t n) (callsNext t n k) (tape-f32 t n) (next-f32 t n k) h)
+
+-- a placement adds at most two bands
+pub tape-two-bands-more : (t : List ℕ) (n : ℕ) (c : Call) → RecordAt t n (placing c) → length (bandsIn (runAt t (suc n))) ≤ length (bandsIn (runAt t n)) + 2
+unfolding run
+tape-two-bands-more t n c e = rw (run-one t n (placing c) e) (two-bands-more (callsAt t n) c (tape-f32 t n) (placed-f32 t n c e))
+
+-- on m bands it takes at most 2m steps
+pub tape-steps-at-most : (t : List ℕ) (n : ℕ) (c : Call) → RecordAt t n (placing c) → (x y : Float) (k : ℕ) → placeOf (runAt t n .struct) c .answer ≡ PlaceAnswer.At x y k → k ≤ length (bandsIn (runAt t n)) + length (bandsIn (runAt t n))
+tape-steps-at-most t n c e = steps-at-most (callsAt t n) c (tape-f32 t n) (placed-f32 t n c e)
+
+-- rule 5: no box is put higher than an earlier one
+pub tape-rule-5 : (t : List ℕ) (n : ℕ) → Pairs (λ a b. T (le (a .y) (b .y))) (runAt t n .accepted)
+tape-rule-5 t n = rule-5 (callsAt t n) (tape-f32 t n)
+
+-- rule 1: the placed inset is at least the containing lead inset
+pub tape-rule-1 : (t : List ℕ) (n : ℕ) → Each (λ a. T (le (containingLead a) (a .inset))) (runAt t n .accepted)
+tape-rule-1 t n = rule-1 (callsAt t n) (tape-f32 t n)
+
+-- ---- if every number that they handed in was whole 64ths
+
+-- all numbers that the page then holds are whole 64ths
+pub tape-page-in-64ths : (t : List ℕ) (n : ℕ) → Handed Whole64 (callsAt t n) → Page64 (pageIn (runAt t n))
+tape-page-in-64ths t n = page-in-64ths (callsAt t n) (tape-f32 t n)
+
+-- rule 7: beside an earlier box of its side, inset + width is at most page width - containing trail inset
+pub tape-rule-7 : (t : List ℕ) (n : ℕ) → Handed Whole64 (callsAt t n)
+    → Pairs (λ a b. T (sameSide (sideIn a) (sideIn b)) → T (sized a) → T (sized b) → T (shareHeight a b) → T (le (add binary32 (b .inset) (b .call .width)) (sub binary32 (pageIn (runAt t n) .width) (containingTrail b)))) (runAt t n .accepted)
+tape-rule-7 t n = rule-7 (callsAt t n) (tape-f32 t n)
+
+-- no two accepted boxes of positive size overlap
+pub tape-no-overlap : (t : List ℕ) (n : ℕ) → Handed Whole64 (callsAt t n) → Pairs (λ a b. T (sized a) → T (sized b) → T (not (overlap a b))) (runAt t n .accepted)
+tape-no-overlap t n = no-overlap (callsAt t n) (tape-f32 t n)

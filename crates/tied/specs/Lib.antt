@@ -1,0 +1,2 @@
+-- What the tie speaks of.
+pub mod Acts

@@ -1,0 +1,1 @@
+// Theorems only: a tape makes the calls that the promises speak of.
