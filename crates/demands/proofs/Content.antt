@@ -17,6 +17,7 @@ use Rattle.float.specs.declared.Clear.{Clear}
 use Rattle.float.specs.declared.ContentAnswer.{ContentAnswer}
 use Rattle.float.specs.declared.FloatDirection.{FloatDirection}
 use Rattle.float.specs.declared.Segment.{Segment}
+use Rattle.float.specs.declared.slot.Insets.{Insets}
 use Rattle.float.specs.declared.slot.Sought.{Sought}
 use Rattle.float.specs.Numbers.{Given, size, offset, plusZero}
 use Rattle.float.specs.Bands.{lead, none, firstBelow}
@@ -39,6 +40,10 @@ plus-zero : plusZero zero+ ≡ zero+
 unfolding plusZero
 plus-zero = both (λ (z : Float). z ≡ zero+) (eq zero+ zero+) (λ t. refl) (λ t. refl)
 
+-- the same inset on both sides
+abbrev both-sides : Float → Insets
+both-sides x = record { left = x; right = x }
+
 -- ---- the slot
 module _ (p : Page) (c : Chain (inf true) (p .bands)) (y : Float) (v : Val y) where
   abbrev l : List Segment
@@ -54,7 +59,7 @@ module _ (p : Page) (c : Chain (inf true) (p .bands)) (y : Float) (v : Val y) wh
       larger-first (b .inset s .num) (ins-zero .num) (omega (arith, zero-k, b .inset s .low))
       ∙ sym (at-is (inf true) l y i s c (v .num) h (first-start (inf true) l y c (v .num) (omega arith) h) (lt→key (v .num) (b .end .num) (first-end l 0 y h)))
 
-  slot-told : Between p y (contentSlot p zero+ zero+ (seek p Clear.None BandNumber.None y))
+  slot-told : Between p y (contentSlot p (both-sides zero+) (seek p Clear.None BandNumber.None y))
   unfolding contentSlot seek active cleared clearedPast raiseTo
   slot-told =
       both P (ltb i (length l))
@@ -62,7 +67,7 @@ module _ (p : Page) (c : Chain (inf true) (p .bands)) (y : Float) (v : Val y) wh
       (λ t. let o = nltb→le i (length l) t in record { at = refl; left = sym (first-none FloatDirection.Left l y o); room = ap₂ less (sym (first-none FloatDirection.Left l y o)) (sym (first-none FloatDirection.Right l y o)) })
     where
       P : Sought → Type 0
-      P q = Between p y (contentSlot p zero+ zero+ q)
+      P q = Between p y (contentSlot p (both-sides zero+) q)
 
       less : Float → Float → Float
       less a b = sub binary32 (sub binary32 (p .width) a) b
@@ -87,7 +92,7 @@ pub content-told : (p : Page) (h : Float) → Chain (inf true) (p .bands) → F3
 unfolding content
 content-told p h c f =
     check-both (Answers p (plusZero h)) true gs
-    (λ t u. subst (λ (z : Float). Between p (plusZero h) (contentSlot p z z (seek p Clear.None BandNumber.None (plusZero h)))) (sym plus-zero) (slot-told p c (plusZero h) (known gs (plus-fits h f, (plus-fits zero+ zero-fits, (plus-fits zero+ zero-fits, tt))) t u .0)))
+    (λ t u. subst (λ (z : Float). Between p (plusZero h) (contentSlot p (both-sides z) (seek p Clear.None BandNumber.None (plusZero h)))) (sym plus-zero) (slot-told p c (plusZero h) (known gs (plus-fits h f, (plus-fits zero+ zero-fits, (plus-fits zero+ zero-fits, tt))) t u .0)))
     (λ n o. tt)
   where
     gs : List Given

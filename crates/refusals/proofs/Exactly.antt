@@ -25,6 +25,7 @@ use Rattle.float.specs.Page.{Page, pageOf}
 use Rattle.float.specs.Place.{Call, cleaned, Result, askOf, spotOf, near, high, flat, put, admitted, checked as checkedOf, place, placeOf, widthCheck, widthOf}
 use Rattle.float.specs.Slot.{ContentCall, BfcCall, hasActiveFloats, clearedThreshold, content as contentOf, bfc as bfcOf}
 use Rattle.float.specs.Calculator.{calculatorOf, zeroed, plusOn, added, addedSums, addOf}
+use Rattle.tape.specs.declared.record.Mode.{Mode}
 use Rattle.tape.specs.declared.step.Calculator.{Calculator}
 use Rattle.tape.specs.Lines.{refusedLine}
 use Rattle.tape.specs.Tape.{notAdded, startOf, addTo, resultLine, linesOf, returned}
@@ -53,7 +54,7 @@ top (box c) = 8
 top (content c) = 4
 top (bfc c) = 4
 top (threshold k) = 4
-top (start m w) = 4
+top (start m) = 4
 top (add-box w s k) = 9
 top result = 9
 top (lines t a) = 14
@@ -66,7 +67,7 @@ top-three (box c) = omega arith
 top-three (content c) = omega arith
 top-three (bfc c) = omega arith
 top-three (threshold k) = omega arith
-top-three (start m w) = omega arith
+top-three (start m) = omega arith
 top-three (add-box w s k) = omega arith
 top-three result = omega arith
 top-three (lines t a) = omega arith
@@ -112,12 +113,12 @@ module _ (p : FloatContext) (q : Calculator) where
   unfolding clearedThreshold top
   threshold-exactly k = ask saidThreshold (threshold k) (λ n. refl) (accepted (threshold k) (λ n. not-refused n))
 
-  start-exactly : (m : ℕ) (w : Float) → Outcome (Refuses p q (start m w)) (Applies (pageOf p) q (start m w))
+  start-exactly : (m : Mode) → Outcome (Refuses p q (start m)) (Applies (pageOf p) q (start m))
   unfolding startOf calculatorOf checkOf allFinite allAllowed top
-  start-exactly zero w = ask saidStarted (start zero w) (λ n. refl) (accepted (start zero w) (λ n. not-refused n))
-  start-exactly (suc zero) w = ask saidStarted (start 1 w) {x = startOf 1 w} {f = CalculatorAnswer.Refused} (λ n. refl) (accepted (start 1 w) (λ n. not-refused n))
-  start-exactly (suc (suc zero)) w = ask saidStarted (start 2 w) {x = startOf 2 w} {f = CalculatorAnswer.Refused} (λ n. refl) (accepted (start 2 w) (λ n. not-refused n))
-  start-exactly (suc (suc (suc m))) w = one 1 (says 1) (unknown-code {a = start (suc (suc (suc m))) w} (inl (omega arith)), from-1 (pageOf p) q (start (suc (suc (suc m))) w))
+  start-exactly (Mode.Known (AvailableSpace.Definite w)) = ask saidStarted (start (Mode.Known (AvailableSpace.Definite w))) (λ n. refl) (accepted (start (Mode.Known (AvailableSpace.Definite w))) (λ n. not-refused n))
+  start-exactly (Mode.Known AvailableSpace.MinContent) = ask saidStarted (start (Mode.Known AvailableSpace.MinContent)) {x = startOf (Mode.Known AvailableSpace.MinContent)} {f = CalculatorAnswer.Refused} (λ n. refl) (accepted (start (Mode.Known AvailableSpace.MinContent)) (λ n. not-refused n))
+  start-exactly (Mode.Known AvailableSpace.MaxContent) = ask saidStarted (start (Mode.Known AvailableSpace.MaxContent)) {x = startOf (Mode.Known AvailableSpace.MaxContent)} {f = CalculatorAnswer.Refused} (λ n. refl) (accepted (start (Mode.Known AvailableSpace.MaxContent)) (λ n. not-refused n))
+  start-exactly Mode.Unknown = one 1 (says 1) (unknown-code {a = start Mode.Unknown} (inl (omega arith)), from-1 (pageOf p) q (start Mode.Unknown))
 
   width-exactly : (w : Float) → Outcome (Refuses p q (width w)) (Applies (pageOf p) q (width w))
   unfolding widthOf widthCheck top
@@ -278,7 +279,7 @@ outcome p q (box c) = box-exactly p q c
 outcome p q (content c) = content-exactly p q c
 outcome p q (bfc c) = bfc-exactly p q c
 outcome p q (threshold k) = threshold-exactly p q k
-outcome p q (start m w) = start-exactly p q m w
+outcome p q (start m) = start-exactly p q m
 outcome p q (add-box w s k) = add-exactly p w s k q
 outcome p q result = result-exactly p q
 outcome p q (lines t a) = lines-exactly p q t a

@@ -89,7 +89,7 @@ line-exactly-when s (Record.Width w) n = by-call s (width w) n (done 87 (λ e. o
 line-exactly-when s (Record.Place side clear w h y l r) n = by-call s (box _) n (placed (placeOf (s .page) _ .answer) n)
 line-exactly-when s (Record.Content y l r clear after) n = by-call s (content _) n (contents (contentOf (pageOf (s .page)) _) n)
 line-exactly-when s (Record.Bfc y l r ml mr d clear after) n = by-call s (bfc _) n (bfcs (bfcOf (pageOf (s .page)) _) n)
-line-exactly-when s (Record.Start mode w) n = by-call s (start mode w) n (starts (s .calculator) (startOf mode w) n)
+line-exactly-when s (Record.Start mode) n = by-call s (start mode) n (starts (s .calculator) (startOf mode) n)
 line-exactly-when s (Record.Add w side clear) n = by-call s (add-box w side clear) n (adds s (s .calculator) w side clear n)
 line-exactly-when s Record.Result n = by-call s result n (λ e. e, λ e. e)
 

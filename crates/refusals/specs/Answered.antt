@@ -32,7 +32,7 @@ Refuses p q (box c) n = saidPlace (placeOf p c .answer) ≡ refused n
 Refuses p q (content c) n = saidContent (contentOf (pageOf p) c) ≡ refused n
 Refuses p q (bfc c) n = saidBfc (bfcOf (pageOf p) c) ≡ refused n
 Refuses p q (threshold k) n = saidThreshold (clearedThreshold (pageOf p) k) ≡ refused n
-Refuses p q (start m w) n = saidStarted (startOf m w) ≡ refused n
+Refuses p q (start m) n = saidStarted (startOf m) ≡ refused n
 Refuses p (Calculator.One c) (add-box w s k) n = saidDone (addOf c w s k .answer) ≡ refused n
 Refuses p Calculator.None (add-box w s k) n = addTo Calculator.None w s k .line ≡ refusal n
 Refuses p q result n = resultLine q ≡ refusal n
@@ -45,6 +45,6 @@ asked (Record.Width w) = width w ∷ []
 asked (Record.Place side clear w h y l r) = box (record { side = side; clear = clear; width = w; height = h; minY = y; left = l; right = r }) ∷ []
 asked (Record.Content y l r clear after) = content (record { minY = y; left = l; right = r; clear = clear; after = after }) ∷ []
 asked (Record.Bfc y l r ml mr d clear after) = bfc (record { minY = y; left = l; right = r; leftMargin = ml; rightMargin = mr; direction = d; clear = clear; after = after }) ∷ []
-asked (Record.Start mode w) = start mode w ∷ []
+asked (Record.Start mode) = start mode ∷ []
 asked (Record.Add w side clear) = add-box w side clear ∷ []
 asked Record.Result = result ∷ []

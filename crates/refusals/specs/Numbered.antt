@@ -1,5 +1,5 @@
 -- The paper's table "Numbered no", row by row, over every call that can be refused. Definitions only.
-use Prim.Native.Nat.{ℕ, zero, suc, _≤_, _<_}
+use Prim.Native.Nat.{ℕ, _≤_, _<_}
 use mathlib.Core.Path.{_≡_}
 use mathlib.Core.Logic.{_⊎_, _≢_}
 use mathlib.Core.Bool.{Bool, true, false, not, cond}
@@ -17,23 +17,24 @@ use Rattle.float.specs.Page.{Page}
 use Rattle.float.specs.Place.{Call, cleaned, askOf, spotOf, Made, make}
 use Rattle.float.specs.Slot.{ContentCall, BfcCall}
 use Rattle.float.specs.Calculator.{zeroed, plusOn}
+use Rattle.tape.specs.declared.record.Mode.{Mode}
 use Rattle.tape.specs.declared.step.Calculator.{Calculator}
 use Rattle.tape.specs.Tape.{linesOf}
 
 -- What can be asked, as it is handed in. Of a page: a width, has_active_floats at a min_y, a box, the two slot questions, cleared_threshold of a clear.
--- Of a calculator: start with a mode and a number, add a width, side and clear, the result. Of a tape: its lines, into the room lent for them.
+-- Of a calculator: start with a mode, add a width, side and clear, the result. Of a tape: its lines, into the room lent for them.
 pub data Asked : Type 0 where
   width active : Float → Asked
   box : Call → Asked
   content : ContentCall → Asked
   bfc : BfcCall → Asked
   threshold : ℕ → Asked
-  start : ℕ → Float → Asked
+  start : Mode → Asked
   add-box : Float → ℕ → ℕ → Asked
   result : Asked
   lines : List ℕ → List ℕ → Asked
 
--- its codes, each with how many are known: 2 sides, 4 clears, 2 directions, 3 modes; and its numbers by their rows of the table of limits
+-- its codes, each with how many are known: 2 sides, 4 clears, 2 directions, 3 modes, of which only the unknown is read as a code; and its numbers by their rows of the table of limits
 pub record Handed : Type 0 where
   pub codes : List (ℕ × ℕ)
   pub numbers : List Given
@@ -45,8 +46,10 @@ handed (box c) = record { codes = (c .side, 2) ∷ (c .clear, 4) ∷ []; numbers
 handed (content c) = record { codes = (c .clear, 4) ∷ []; numbers = offset (c .minY) ∷ size (c .left) ∷ size (c .right) ∷ [] }
 handed (bfc c) = record { codes = (c .direction, 2) ∷ (c .clear, 4) ∷ []; numbers = offset (c .minY) ∷ size (c .left) ∷ size (c .right) ∷ offset (c .leftMargin) ∷ offset (c .rightMargin) ∷ [] }
 handed (threshold k) = record { codes = (k, 4) ∷ []; numbers = [] }
-handed (start zero w) = record { codes = (zero, 3) ∷ []; numbers = size w ∷ [] }
-handed (start (suc m) w) = record { codes = (suc m, 3) ∷ []; numbers = [] }
+handed (start (Mode.Known (AvailableSpace.Definite w))) = record { codes = []; numbers = size w ∷ [] }
+handed (start (Mode.Known AvailableSpace.MinContent)) = record { codes = []; numbers = [] }
+handed (start (Mode.Known AvailableSpace.MaxContent)) = record { codes = []; numbers = [] }
+handed (start Mode.Unknown) = record { codes = (3, 3) ∷ []; numbers = [] }
 handed (add-box w s k) = record { codes = (s, 2) ∷ (k, 4) ∷ []; numbers = size w ∷ [] }
 handed result = record { codes = []; numbers = [] }
 handed (lines t a) = record { codes = []; numbers = [] }

@@ -39,7 +39,7 @@ step-page s r (Record.Width w) e = ap (λ (p : FloatContext). widthOf p w .page)
 step-page s r (Record.Place side clear w h y l x) e = ap (λ (p : FloatContext). placeOf p (record { side = side; clear = clear; width = w; height = h; minY = y; left = l; right = x }) .page) e
 step-page s r (Record.Content y l x clear a) e = e
 step-page s r (Record.Bfc y l x ml mr d clear a) e = e
-step-page s r (Record.Start mode w) e = e
+step-page s r (Record.Start mode) e = e
 step-page s r (Record.Add w side clear) e = e
 step-page s r Record.Result e = e
 
@@ -196,7 +196,7 @@ refused-record s (Record.Place side clear w h y l x) e =
     ap (λ (p : FloatContext). record { page = p; calculator = s .calculator }) (refused-box (s .page) c (r .0) (r .1))
 refused-record s (Record.Content y l r clear a) e = refl
 refused-record s (Record.Bfc y l r ml mr d clear a) e = refl
-refused-record s (Record.Start mode w) e = ap (λ (c : Calculator). record { page = s .page; calculator = c }) (start-left (s .calculator) _ e)
+refused-record s (Record.Start mode) e = ap (λ (c : Calculator). record { page = s .page; calculator = c }) (start-left (s .calculator) _ e)
 refused-record s (Record.Add w side clear) e = ap (λ (c : Calculator). record { page = s .page; calculator = c }) (add-left (s .calculator) w side clear e)
 refused-record s Record.Result e = refl
 

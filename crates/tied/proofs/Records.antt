@@ -12,7 +12,7 @@ use Rattle.demands.specs.Runs.{after}
 use Rattle.tape.specs.declared.record.Read.{Read}
 use Rattle.tape.specs.declared.record.Record.{Record}
 use Rattle.tape.specs.Bytes.{f32At}
-use Rattle.tape.specs.Record.{bodyLens, bodyLen, afterAt, recordOf, readOf}
+use Rattle.tape.specs.Record.{bodyLens, bodyLen, afterAt, modeOf, recordOf, readOf}
 use Rattle.tied.specs.Acts.{callsIn, records, recordsOf, runAt}
 
 -- ---- the fuel lasts
@@ -45,6 +45,13 @@ module _ (b u : List ℕ) where
   unfolding afterAt
   after-more i h = cc (byte-more i (omega arith), byte-more (i + 1) (omega arith))
 
+  mode-more : (m : ℕ) → 5 ≤ length b → modeOf m (b ++ u) ≡ modeOf m b
+  unfolding modeOf
+  mode-more zero h = cc (f32-more 1 h)
+  mode-more (suc zero) h = refl
+  mode-more (suc (suc zero)) h = refl
+  mode-more (suc (suc (suc m))) h = refl
+
   record-more : (k : ℕ) → bodyLen k ≤ length b → recordOf k (b ++ u) ≡ recordOf k b
   record-more zero h = refl
   record-more (suc zero) h = cc (f32-more 0 h)
@@ -52,7 +59,7 @@ module _ (b u : List ℕ) where
   record-more (suc (suc (suc zero))) h = cc (f32-more 0 (omega arith), f32-more 4 (omega arith), f32-more 8 (omega arith), byte-more 12 (omega arith), after-more 13 h)
   record-more (suc (suc (suc (suc zero)))) h =
       cc (f32-more 0 (omega arith), f32-more 4 (omega arith), f32-more 8 (omega arith), f32-more 12 (omega arith), f32-more 16 (omega arith), byte-more 20 (omega arith), byte-more 21 (omega arith), after-more 22 h)
-  record-more (suc (suc (suc (suc (suc zero))))) h = cc (byte-more 0 (omega arith), f32-more 1 h)
+  record-more (suc (suc (suc (suc (suc zero))))) h = cc (byte-more 0 (omega arith), mode-more (getD b 0 0) h)
   record-more (suc (suc (suc (suc (suc (suc zero)))))) h = cc (f32-more 0 (omega arith), byte-more 4 (omega arith), byte-more 5 h)
   record-more (suc (suc (suc (suc (suc (suc (suc zero))))))) h = refl
   record-more (suc (suc (suc (suc (suc (suc (suc (suc k)))))))) h = refl

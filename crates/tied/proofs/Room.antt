@@ -85,17 +85,17 @@ bfc-fields s h =
     let e = fields-short (band (s .band) ∷ float (s .x) ∷ float (s .y) ∷ float (s .«border_width») ∷ float (s .«stretch_width») ∷ []) (h, (float-short (s .x), (float-short (s .y), (float-short (s .«border_width»), (float-short (s .«stretch_width»), tt))))) in
     omega arith
 
-content-slot : (p : Page) (l r : Float) (s : Sought) → Lands s → length (contentLine (ContentAnswer.Slot (contentSlot p l r s))) ≤ 47
+content-slot : (p : Page) (i : _) (s : Sought) → Lands s → length (contentLine (ContentAnswer.Slot (contentSlot p i s))) ≤ 47
 unfolding contentSlot
-content-slot p l r (Sought.Quiet y) h = content-fields _ none-short
-content-slot p l r (Sought.Past y) h = content-fields _ none-short
-content-slot p l r (Sought.At i y) h = content-fields _ (band-short i h)
+content-slot p i (Sought.Quiet y) h = content-fields _ none-short
+content-slot p i (Sought.Past y) h = content-fields _ none-short
+content-slot p i (Sought.At k y) h = content-fields _ (band-short k h)
 
-bfc-slot : (p : Page) (d : Direction) (l r m n : Float) (s : Sought) → Lands s → length (bfcLine (BfcAnswer.Slot (bfcSlot p d l r m n s))) ≤ 47
+bfc-slot : (p : Page) (d : Direction) (i : _) (s : Sought) → Lands s → length (bfcLine (BfcAnswer.Slot (bfcSlot p d i s))) ≤ 47
 unfolding bfcSlot
-bfc-slot p d l r m n (Sought.Quiet y) h = bfc-fields _ none-short
-bfc-slot p d l r m n (Sought.Past y) h = bfc-fields _ none-short
-bfc-slot p d l r m n (Sought.At i y) h = bfc-fields _ (band-short i h)
+bfc-slot p d i (Sought.Quiet y) h = bfc-fields _ none-short
+bfc-slot p d i (Sought.Past y) h = bfc-fields _ none-short
+bfc-slot p d i (Sought.At k y) h = bfc-fields _ (band-short k h)
 
 content-refused : (n : Refusal) → length (contentLine (ContentAnswer.Refused n)) ≤ 47
 unfolding contentLine
@@ -115,11 +115,11 @@ module _ (p : Page) (b : length (p .bands) ≤ 96) where
 
   content-short : (c : ContentCall) → length (contentLine (content p c)) ≤ 47
   unfolding content
-  content-short c = check-ways (λ a. length (contentLine a) ≤ 47) _ _ (content-slot p _ _ _ (seek-lands _ _ _)) content-refused
+  content-short c = check-ways (λ a. length (contentLine a) ≤ 47) _ _ (content-slot p _ _ (seek-lands _ _ _)) content-refused
 
   bfc-short : (c : BfcCall) → length (bfcLine (bfc p c)) ≤ 47
   unfolding bfc
-  bfc-short c = check-ways (λ a. length (bfcLine a) ≤ 47) _ _ (bfc-slot p _ _ _ _ _ _ (seek-lands _ _ _)) bfc-refused
+  bfc-short c = check-ways (λ a. length (bfcLine a) ≤ 47) _ _ (bfc-slot p _ _ _ (seek-lands _ _ _)) bfc-refused
 
 -- ---- the records of a tape
 

@@ -26,7 +26,7 @@ callsIn (Record.Width w) = width w ∷ []
 callsIn (Record.Place side clear w h y l r) = box (record { side = side; clear = clear; width = w; height = h; minY = y; left = l; right = r }) ∷ []
 callsIn (Record.Content y l r clear a) = []
 callsIn (Record.Bfc y l r ml mr d clear a) = []
-callsIn (Record.Start mode w) = []
+callsIn (Record.Start mode) = []
 callsIn (Record.Add w side clear) = []
 callsIn Record.Result = []
 
