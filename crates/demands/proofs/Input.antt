@@ -80,8 +80,7 @@ unfolding allAllowed within
 sizes c t =
     let h = and-r (allowed (size (c .width))) (allAllowed (size (c .height) ∷ offset (c .minY) ∷ size (c .left) ∷ size (c .right) ∷ [])) t in
     let m = and-r (allowed (size (c .height))) (allAllowed (offset (c .minY) ∷ size (c .left) ∷ size (c .right) ∷ [])) h in
-    let i = and-r (allowed (offset (c .minY))) (allAllowed (size (c .left) ∷ size (c .right) ∷ [])) m in
-    (
+    let i = and-r (allowed (offset (c .minY))) (allAllowed (size (c .left) ∷ size (c .right) ∷ [])) m in (
       top (c .width) (and-l (allowed (size (c .width))) _ t),
       λ r. on-either (λ (x : Float). T (le x most)) r (top (c .left) (and-l (allowed (size (c .left))) _ i)) (top (c .right) (and-l (allowed (size (c .right))) _ (and-r (allowed (size (c .left))) _ i))),
     )
