@@ -18,5 +18,9 @@ fn is_as_the_header_says() {
     let tapes = stored::read(&std::fs::read(file).unwrap()).expect("crates/replay/stdin breaks off");
     let deepest = tapes.iter().step_by(10).map(|(tape, _)| panel_stack(tape)).max().unwrap();
     assert!(deepest > 0);
-    assert_eq!(said(), deepest, "BULAMEKI_STACK of include/bulameki.h, and what each tenth of the stored tapes takes at most");
+    assert_eq!(
+        said(),
+        deepest,
+        "BULAMEKI_STACK of include/bulameki.h, and what each tenth of the stored tapes takes at most"
+    );
 }
