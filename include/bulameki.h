@@ -1,7 +1,21 @@
 /* The C face of Bulameki: runs a tape of calls that place floated boxes on a page, and writes one line a call.
 
-   x86-64 only. The archive, target/staticlib/libpanel.a, needs nothing at link time but memcpy and memset.
-   Nothing is kept from one call to the next, and nothing but the answers is written.
+   x86-64 only, for C99 and C++. The archive, target/staticlib/libpanel.a, needs nothing at link time but memcpy and
+   memset. Nothing is kept from one call to the next, and nothing but the answers is written: several threads may call at
+   once, each with an answer room of its own.
+
+   WHAT A CALL NEEDS.
+     - Stack: at most BULAMEKI_STACK bytes, whatever the tape. Up to 128 bytes below the stack pointer are in use
+       without being reserved (the red zone of the x86-64 ABI), so an interrupt handler may not push onto this stack,
+       unless it first steps over them. No heap, no static memory.
+     - Time: it grows with the tape's length and is bounded. The worst tape found, 65,536 bytes of kind 0, took 14 ms on
+       a server of two cores, and 27 ms in a room that was just enough, where a tape is run twice.
+     - A floating-point environment as C and the ABI start one (MXCSR 0x1F80): rounding to nearest, subnormals neither
+       flushed to zero nor read as zero, all exceptions masked. In another one answers are wrong, pictures may lie over
+       each other, and an unmasked exception ends the program at the first NaN. Linking with -ffast-math is enough to
+       change it. Call bulameki_environment() at start-up, in each thread that calls.
+     - A tape that holds still. Copy one that can change meanwhile (worn flash, DMA, another thread) to RAM first. A tape
+       of which a byte changes during the call gives any lines.
 
    THE TAPE. A record is one byte of kind, then a body of fixed length. f32 and u16 are little-endian, codes are bytes.
 
@@ -40,16 +54,25 @@
      end    T offset                               8    an unknown kind or a cut body stands at offset; the run ends
      all    L                                      2    the tape is longer than 65,536 bytes; no record was run
 
-   Of several refusals that apply to a record, the lowest is given. The numbers are those of enum bulameki_refusal. */
+   Of several refusals that apply to a record, the lowest is given. The numbers are those of enum bulameki_refusal.
+   A band's number counts from the top of the page, and holds until the next box is accepted: a box may split bands, and
+   those below then have other numbers. include/bulameki_lines.h reads a line into its numbers. */
 #ifndef BULAMEKI_H
 #define BULAMEKI_H
 
 #include <stddef.h>
 #include <stdint.h>
+#include <string.h>
 
 #ifdef __cplusplus
 extern "C" {
 #endif
+
+/* This header and the archive are of one version; CHANGELOG.md says what each brought. */
+#define BULAMEKI_VERSION "0.1.0"
+
+/* The deepest stack of a call in bytes, its return address counted: measured, as docs/SPEED.md says. */
+#define BULAMEKI_STACK 18872
 
 enum bulameki_kind {
     BULAMEKI_NEW = 0,
@@ -105,7 +128,8 @@ enum bulameki_refusal {
 /* What bulameki_run_tape returns in place of a length when the room is too short. */
 #define BULAMEKI_RETURNS_NO_ROOM (-(int64_t)BULAMEKI_NO_ROOM)
 
-/* Room that is surely enough for the lines of a tape of this many bytes; a constant where the length is one.
+/* Room that is surely enough for the lines of a tape of this many bytes; a constant where the length is one. In such a
+   room a tape is run once; in a shorter one it is run once to count its lines, and again to write them.
    No record has a line of more than 11 bytes for each of its own: kind 7, a single byte, can answer I and a float;
    T has at most 8 and stands for at least one byte; every other kind has at most 2 for each byte. */
 #define BULAMEKI_ROOM(tape_len) ((size_t)(tape_len) <= BULAMEKI_LONGEST_TAPE ? 11 * (size_t)(tape_len) : (size_t)2)
@@ -127,6 +151,59 @@ enum bulameki_refusal {
 
    gives n = 24 and the two lines "W" and "P 00000000 00000000 0". A whole program is examples/c/page.c. */
 int64_t bulameki_run_tape(const uint8_t *tape, size_t tape_len, uint8_t *answers, size_t room);
+
+/* A float of these bits, and the bits of a float. */
+static inline float bulameki_float(uint32_t bits)
+{
+    float value;
+    memcpy(&value, &bits, sizeof value);
+    return value;
+}
+
+static inline uint32_t bulameki_bits(float value)
+{
+    uint32_t bits;
+    memcpy(&bits, &value, sizeof bits);
+    return bits;
+}
+
+/* What bulameki_environment can find wrong. */
+enum bulameki_fault {
+    /* an exception is unmasked; nothing further is tried then */
+    BULAMEKI_UNMASKED = 1,
+    /* sums do not round to nearest */
+    BULAMEKI_ROUNDING = 2,
+    /* a subnormal result becomes zero (FTZ) */
+    BULAMEKI_FLUSHED = 4,
+    /* a subnormal operand is read as zero (DAZ) */
+    BULAMEKI_READ_AS_ZERO = 8
+};
+
+#if defined(__x86_64__) && defined(__GNUC__)
+/* The faults of this thread's floating-point environment, added up; 0 if it is the one that is needed. */
+static inline unsigned bulameki_environment(void)
+{
+    volatile float one = 1, little = bulameki_float(0x32800000), above, below; /* little: 2^-26 */
+    volatile float least = bulameki_float(0x00800000), more = bulameki_float(0x00C00000), difference;
+    volatile float half = bulameki_float(0x00400000), twice; /* half of the least normal float */
+    uint32_t mxcsr;
+    unsigned faults = 0;
+    __asm__ volatile("stmxcsr %0" : "=m"(mxcsr));
+    if ((mxcsr & 0x1F80) != 0x1F80)
+        return BULAMEKI_UNMASKED;
+    above = one + little;
+    below = one - little;
+    difference = more - least;
+    twice = half + half;
+    if (bulameki_bits(above) != 0x3F800000 || bulameki_bits(below) != 0x3F800000)
+        faults += BULAMEKI_ROUNDING;
+    if (bulameki_bits(difference) != 0x00400000)
+        faults += BULAMEKI_FLUSHED;
+    if (bulameki_bits(twice) != 0x00800000)
+        faults += BULAMEKI_READ_AS_ZERO;
+    return faults;
+}
+#endif
 
 #ifdef __cplusplus
 }

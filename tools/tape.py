@@ -7,6 +7,7 @@
 
 IN, OUT and LINES may be - for standard input or output (IN and LINES not both); without LINES, show takes -.
 A bad line is named on standard error as FILE:LINE: what is wrong. The status is then 1 and nothing is written.
+Lines end in a line feed, with or without a carriage return before it; a mark of UTF-8 at the start is passed over.
 
 The text has one record a line; # begins a comment. What stands in brackets may be left out, in any order.
 
@@ -30,6 +31,7 @@ import struct
 import sys
 from collections import namedtuple
 from fractions import Fraction
+from functools import lru_cache
 
 LONGEST = 65536  # bytes; a longer tape is answered by the one line L
 NONE = 65535  # "after" on the tape when there is none
@@ -70,11 +72,17 @@ REFUSALS = {1: 'unknown code', 2: 'NaN or infinite', 3: 'outside its limits', 4:
 
 
 class Bad(Exception):
-    """What is wrong with one line."""
+    """What is wrong with one line, or with a file."""
 
 
 class BadLines(Exception):
     """The bad lines of a file: a list of line number and what is wrong."""
+
+
+def quoted(word):
+    """A word in quotes for a message: at most 40 of its characters, and none that does not show."""
+    shown = ''.join(c if c.isprintable() else f'\\x{ord(c):02x}' for c in word[:40])
+    return f"'{shown}'" + (f' .. ({len(word)} characters)' if len(word) > 40 else '')
 
 
 # Numbers
@@ -91,18 +99,29 @@ def nearest(value):
     return min(((exponent + 126) << 23) + round(value / Fraction(2) ** (exponent - 23)), INFINITY)
 
 
+def of_decimal(size):
+    """The bits of the f32 nearest to an unsigned decimal."""
+    double = float(size)
+    if double == 0:
+        return 0
+    # Rounding twice is rounding once, unless the f64 lies midway between two f32.
+    if 2.0 ** -126 <= double < 2.0 ** 127 and struct.unpack('<Q', struct.pack('<d', double))[0] & 0x1FFFFFFF != 1 << 28:
+        return struct.unpack('<I', struct.pack('<f', double))[0]
+    return nearest(Fraction(size))
+
+
 def number(word):
     """The f32 bits of a number's text."""
-    if not re.fullmatch(NUMBER, word) or len(word) > 200:
-        raise Bad(f"'{word}' is not a number")
+    if len(word) > 200 or not re.fullmatch(NUMBER, word):
+        raise Bad(f'{quoted(word)} is not a number')
     if word.startswith('0x'):
         return int(word, 16)
     if word == 'nan':
         return QUIET_NAN
     minus, size = (SIGN, word[1:]) if word.startswith('-') else (0, word)
-    bits = INFINITY if size == 'inf' else nearest(Fraction(size))
+    bits = INFINITY if size == 'inf' else of_decimal(size)
     if bits == INFINITY and size != 'inf':
-        raise Bad(f"'{word}' is beyond the largest f32")
+        raise Bad(f'{quoted(word)} is beyond the largest f32')
     return minus | bits
 
 
@@ -114,14 +133,17 @@ def decimal(bits):
     if size in (0, INFINITY):
         return minus + ('inf' if size else '0')
     value, = struct.unpack('<f', struct.pack('<I', size))
+    # Decimals of up to six digits have each a normal f32 of its own, so one that has these bits is the shortest.
+    if size >= 1 << 23 and of_decimal(f'{value:.5e}') == size:
+        return minus + repr(float(f'{value:.5e}')).removesuffix('.0')
     # The f32 below a power of two is nearer than the one above: there the nearest decimal of so many digits may
     # round to another f32 while its neighbour does not.
     beside = (0,) if size & 0x7FFFFF else (0, 1, -1)
-    for digits in range(9):  # one and up to eight more always do
+    for digits in range(0 if size < 1 << 23 or len(beside) > 1 else 6, 9):  # one and up to eight more always do
         mantissa, exponent = f'{value:.{digits}e}'.split('e')
         for step in beside:
             short = f"{int(mantissa.replace('.', '')) + step}e{int(exponent) - digits}"
-            if nearest(Fraction(short)) == size:
+            if of_decimal(short) == size:
                 return minus + repr(float(short)).removesuffix('.0')
 
 
@@ -130,10 +152,11 @@ def decimal(bits):
 def whole(word, most, what):
     """A whole number from 0 to most."""
     if not re.fullmatch('[0-9]{1,5}', word) or int(word) > most:
-        raise Bad(f"'{word}' is not {what} from 0 to {most}")
+        raise Bad(f'{quoted(word)} is not {what} from 0 to {most}')
     return int(word)
 
 
+@lru_cache(1 << 16)
 def value_of(word, field):
     """The number that a word stores in a field."""
     if field == 'after':
@@ -143,7 +166,7 @@ def value_of(word, field):
     if word.startswith(field + '='):
         return whole(word[len(field) + 1:], 255, f'a {field} code')
     if word not in CODES[field]:
-        raise Bad(f"'{word}' is not a {field}: {', '.join(CODES[field])}, or {field}= and a number")
+        raise Bad(f"{quoted(word)} is not a {field}: {', '.join(CODES[field])}, or {field}= and a number")
     return CODES[field].index(word)
 
 
@@ -153,7 +176,7 @@ def fill(part, words, fields):
     if part == 'size' and words:
         both = re.fullmatch(f'({NUMBER})x({NUMBER})', words[0])
         if not both:
-            raise Bad(f"'{words[0]}' is not a size such as 10x30")
+            raise Bad(f'{quoted(words[0])} is not a size such as 10x30')
         words[:1] = both.groups()
     for name in names:
         if not words:
@@ -168,7 +191,7 @@ def part_of(word, parts):
             return part
         if part in CODES and word.startswith(part + '=') or part == word and part not in ('direction', 'number'):
             return part
-    raise Bad(f"'{word}' does not belong here")
+    raise Bad(f'{quoted(word)} does not belong here')
 
 
 def plain(field):
@@ -176,13 +199,18 @@ def plain(field):
     return NONE if field == 'after' else 0
 
 
+@lru_cache
 def layout(kind):
     """The struct format of a kind's body; floats as their bits, so that no NaN changes."""
     return '<' + ''.join('B' if name in CODES else 'H' if name == 'after' else 'I' for name in KINDS[kind].body)
 
 
-def record(words):
-    """The bytes of one line's words."""
+@lru_cache(1 << 16)
+def record(line):
+    """The bytes of one line; none for an empty one."""
+    words = line.split('#')[0].split()
+    if not words:
+        return b''
     if words[0] == 'bytes':
         if len(words) == 1 or not all(re.fullmatch('[0-9A-Fa-f]{2}', word) for word in words[1:]):
             raise Bad('bytes is followed by pairs of hex digits')
@@ -190,7 +218,7 @@ def record(words):
     first = '' if words[0] in CODES['side'] or words[0].startswith('side=') else words.pop(0)
     kind = next((kind for kind, rules in enumerate(KINDS) if rules.word == first), None)
     if kind is None:
-        raise Bad(f"'{first}' is not a record")
+        raise Bad(f'{quoted(first)} is not a record')
     fields, seen = {}, set()
     for part in KINDS[kind].fixed:
         fill(part, words, fields)
@@ -200,7 +228,7 @@ def record(words):
     while words:
         part = part_of(words[0], KINDS[kind].free)
         if part in seen:
-            raise Bad(f"'{words[0]}' is a second {part}")
+            raise Bad(f'{quoted(words[0])} is a second {part}')
         seen.add(part)
         if words[0] == part:
             words.pop(0)
@@ -212,9 +240,8 @@ def make(source):
     """The tape of a text. Raises BadLines."""
     tape, bad = bytearray(), []
     for row, line in enumerate(source.split('\n'), 1):
-        words = line.split('#')[0].split()
         try:
-            tape += record(words) if words else b''
+            tape += record(line)
         except Bad as wrong:
             bad.append((row, str(wrong)))
     if bad:
@@ -237,6 +264,7 @@ def records(tape):
         at += 1 + length
 
 
+@lru_cache(1 << 16)
 def word_of(value, field):
     """The word that stores a number in a field."""
     if field in CODES:
@@ -281,7 +309,7 @@ def meaning(line, kind, at):
     """In words, the answer line of the record of this kind at this offset."""
     if kind in (STOP, LONG):
         if line != (f'T {at}' if kind == STOP else 'L'):
-            raise Bad(f"'{line}' where the tape {'stops at byte %d' % at if kind == STOP else 'is too long'}")
+            raise Bad(f"{quoted(line)} where the tape {'stops at byte %d' % at if kind == STOP else 'is too long'}")
         return MEANINGS[kind]
     refused = re.fullmatch('R ([0-9]{1,2})', line)
     if refused and int(refused[1]) in REFUSALS:
@@ -290,7 +318,7 @@ def meaning(line, kind, at):
     shapes = {'band': '(-|[0-9]+)', 'steps': '([0-9]+)'}
     values = re.fullmatch(' '.join([letter] + [shapes.get(name, '([0-9A-F]{8})') for name in names]), line)
     if not values:
-        raise Bad(f"'{line}' is no answer to a record of kind {kind}")
+        raise Bad(f'{quoted(line)} is no answer to a record of kind {kind}')
     said = [f'{name} {value if name in shapes else decimal(int(value, 16))}'
             for name, value in zip(names, values.groups())]
     return MEANINGS.get(letter) or ', '.join(said).replace('band -', 'no band')
@@ -298,7 +326,7 @@ def meaning(line, kind, at):
 
 def show(tape, answers):
     """Each record's offset and text, and its answer line in letters and in words. Raises BadLines."""
-    lines = answers.split('\n')
+    lines = [line.removesuffix('\r') for line in answers.split('\n')]
     if lines.pop():
         raise BadLines([(len(lines) + 1, 'no line feed ends the line')])
     parts = list(records(tape)) if len(tape) <= LONGEST else [(0, LONG, tape)]
@@ -322,14 +350,27 @@ def show(tape, answers):
 
 def read(name):
     """All bytes of a file."""
-    with open(0 if name == '-' else name, 'rb', closefd=name != '-') as file:
-        return file.read()
+    try:
+        with open(0 if name == '-' else name, 'rb', closefd=name != '-') as file:
+            return file.read()
+    except OSError as wrong:
+        raise Bad(f"{'standard input' if name == '-' else name}: {wrong.strerror}")
 
 
 def write(name, data):
     """Writes a file whole."""
-    with open(1 if name == '-' else name, 'wb', closefd=name != '-') as file:
-        file.write(data)
+    try:
+        with open(1 if name == '-' else name, 'wb', closefd=name != '-') as file:
+            file.write(data)
+    except OSError as wrong:
+        raise Bad(f"{'standard output' if name == '-' else name}: {wrong.strerror}")
+
+
+def lines_of(data):
+    """A file's bytes as text, without the mark of UTF-8 that some editors put first. Raises BadLines."""
+    if data.startswith((b'\xFF\xFE', b'\xFE\xFF')):
+        raise BadLines([(1, 'the file is UTF-16: save it as UTF-8')])
+    return data.removeprefix(b'\xEF\xBB\xBF').decode('ascii', 'replace')
 
 
 def main(command='', *names):
@@ -343,18 +384,21 @@ def main(command='', *names):
     try:
         data = read(names[0])
         if command == 'make':
-            write(names[1], make(data.decode('ascii', 'replace')))
+            tape = make(lines_of(data))
+            write(names[1], tape)
+            if len(tape) > LONGEST:
+                print(f'tape.py: {names[1]}: {len(tape)} bytes; over {LONGEST} no record is run, the answer is L',
+                      file=sys.stderr)
         elif command == 'text':
             write('-', text(data).encode())
         else:
-            write('-', show(data, read(lines).decode('ascii', 'replace')).encode())
+            write('-', show(data, lines_of(read(lines))).encode())
     except BadLines as wrong:
         for row, what in wrong.args[0]:
             print(f'{lines}:{row}: {what}', file=sys.stderr)
         return 1
-    except OSError as wrong:
-        name = wrong.filename if isinstance(wrong.filename, str) else 'standard input or output'
-        print(f'tape.py: {name}: {wrong.strerror}', file=sys.stderr)
+    except Bad as wrong:
+        print(f'tape.py: {wrong}', file=sys.stderr)
         return 1
     return 0
 

@@ -194,6 +194,17 @@ class Numbers(unittest.TestCase):
                 for other in (max(bits - 1, 0), bits + 1):
                     self.assertLessEqual(abs(as_f32(bits) - value), abs(as_f32(other) - value))
 
+    def test_by_f64_as_by_fractions(self):
+        chance = random.Random(5)
+        for _ in range(2000):
+            bits = chance.randrange(0, 0x7F7FFFFF)
+            middle = (as_f32(bits) + as_f32(bits + 1)) / 2
+            near = middle * (1 + Fraction(chance.choice((-1, 0, 1)), 10 ** chance.choice((9, 16, 18, 40))))
+            digits = chance.choice((17, 60, 150))
+            power = math.floor(math.log10(near))
+            word = f'{round(near * Fraction(10) ** (digits - power))}e{power - digits}'
+            self.assertEqual(tape.of_decimal(word), tape.nearest(Fraction(word)), word)
+
     def test_shortest(self):
         chance = random.Random(4)
         powers = [exponent << 23 for exponent in range(1, 255)] + [1 << bit for bit in range(23)]
@@ -234,6 +245,21 @@ class BadText(unittest.TestCase):
             done = command('make', '-', '-', given=b'new\n\xFF\n')
             self.assertEqual((done.returncode, done.stdout), (1, b''))
             self.assertTrue(done.stderr.startswith(b'-:2: '))
+
+
+    def test_a_long_word_is_shortened(self):
+        for line in ('{}', 'left {}', 'left 1x1 {}', 'width {}', 'add {} 1', 'content after {}', 'bfc clear={}'):
+            done = command('make', '-', '-', given=line.format('7' * 3_000_000).encode())
+            self.assertEqual((done.returncode, done.stdout), (1, b''))
+            self.assertIn(b"7' .. (", done.stderr)
+            self.assertLess(len(done.stderr), 200)
+
+    def test_what_does_not_show_is_spelled(self):
+        self.assertEqual(command('make', '-', '-', given=b'wid\0th\x1b[2J 1\n').stderr,
+                         b"-:1: 'wid\\x00th\\x1b[2J' is not a record\n")
+        done = command('make', '-', '-', given='width 1'.encode('utf-16'))
+        self.assertEqual((done.returncode, done.stdout, done.stderr),
+                         (1, b'', b'-:1: the file is UTF-16: save it as UTF-8\n'))
 
 
 class Answers(unittest.TestCase):
@@ -277,6 +303,34 @@ class Command(unittest.TestCase):
     def test_through_pipes(self):
         self.assertEqual(command('make', '-', '-', given=b'width 100\nleft 10x30\ncontent\nbytes 09').stdout, FIRST)
         self.assertEqual(command('text', '-', given=FIRST).stdout, b'width 100\nleft 10x30\ncontent\nbytes 09\n')
+
+    def test_files_of_other_editors(self):
+        source = b'\xEF\xBB\xBFwidth 100\r\nleft 10x30 # a box\r\n\r\ncontent\r\nbytes 09\r\n'
+        self.assertEqual(command('make', '-', '-', given=source).stdout, FIRST)
+        with tempfile.TemporaryDirectory() as folder:
+            one, lines = Path(folder, 'one.tape'), Path(folder, 'one.lines')
+            one.write_bytes(FIRST)
+            lines.write_bytes(b'\xEF\xBB\xBF' + FIRST_LINES.replace('\n', '\r\n').encode())
+            self.assertEqual(command('show', one, lines).stdout.decode(), tape.show(FIRST, FIRST_LINES))
+            lines.write_bytes(b'W\rx\n')
+            self.assertIn(b"'W\\x0dx' is no answer", command('show', one, lines).stderr)
+
+    def test_a_failed_write_is_named(self):
+        if not Path('/dev/full').exists():
+            self.skipTest('no /dev/full')
+        done = command('make', '-', '/dev/full', given=b'new\n')
+        self.assertEqual((done.returncode, done.stderr.split(b': ')[:2]), (1, [b'tape.py', b'/dev/full']))
+        with open('/dev/full', 'wb') as full:
+            done = subprocess.run([sys.executable, HERE / 'tape.py', 'make', '-', '-'], input=b'new\n', stdout=full,
+                                  stderr=subprocess.PIPE, timeout=60)
+        self.assertEqual((done.returncode, done.stderr.split(b': ')[:2]), (1, [b'tape.py', b'standard output']))
+
+    def test_a_long_tape_is_made_with_a_warning(self):
+        for length, warned in ((65536, False), (65537, True)):
+            done = command('make', '-', '-', given=b'new\n' * length)
+            self.assertEqual((done.returncode, done.stdout), (0, bytes(length)))
+            self.assertEqual(done.stderr, b'tape.py: -: 65537 bytes; over 65536 no record is run, the answer is L\n'
+                             if warned else b'')
 
     def test_files(self):
         with tempfile.TemporaryDirectory() as folder:

@@ -4,7 +4,7 @@
 #include <stdlib.h>
 #include <string.h>
 
-#include "bulameki.h"
+#include "bulameki_lines.h"
 
 struct tape {
     uint8_t bytes[512];
@@ -28,8 +28,7 @@ static void put_u16(struct tape *tape, unsigned value)
 
 static void put_f32(struct tape *tape, float value)
 {
-    uint32_t bits;
-    memcpy(&bits, &value, sizeof bits);
+    uint32_t bits = bulameki_bits(value);
     put_u16(tape, bits & 0xFFFF);
     put_u16(tape, bits >> 16);
 }
@@ -92,13 +91,6 @@ static void add(struct tape *tape, float width, enum bulameki_side side)
     put_u8(tape, BULAMEKI_CLEAR_NONE);
 }
 
-static float of_bits(uint32_t bits)
-{
-    float value;
-    memcpy(&value, &bits, sizeof value);
-    return value;
-}
-
 static const char *const refusals[] = {
     [BULAMEKI_UNKNOWN_CODE] = "unknown code",
     [BULAMEKI_NOT_FINITE] = "not finite",
@@ -110,35 +102,41 @@ static const char *const refusals[] = {
     [BULAMEKI_NO_CALCULATOR] = "no calculator",
 };
 
-/* Prints a line as it came and, where it has floats or a refusal, what they say. */
-static void print_line(const char *line)
+/* Prints a line of so many bytes as it came, without its line feed, and, where it has numbers, what they say. */
+static void print_line(const uint8_t *bytes, size_t len, const struct bulameki_line *line)
 {
-    uint32_t a, b, c, d;
-    unsigned n;
-    char band[8], said[128] = "";
-    if (sscanf(line, "P %" SCNx32 " %" SCNx32 " %u", &a, &b, &n) == 3)
-        snprintf(said, sizeof said, "at %g, %g, steps %u", of_bits(a), of_bits(b), n);
-    else if (sscanf(line, "C %7s %" SCNx32 " %" SCNx32 " %" SCNx32, band, &a, &b, &c) == 4)
-        snprintf(said, sizeof said, "band %s, at %g, %g, width %g", band, of_bits(a), of_bits(b), of_bits(c));
-    else if (sscanf(line, "B %7s %" SCNx32 " %" SCNx32 " %" SCNx32 " %" SCNx32, band, &a, &b, &c, &d) == 5)
-        snprintf(said, sizeof said, "band %s, at %g, %g, border %g, stretch %g", band, of_bits(a), of_bits(b),
-                 of_bits(c), of_bits(d));
-    else if (sscanf(line, "I %" SCNx32, &a) == 1)
-        snprintf(said, sizeof said, "width %g", of_bits(a));
-    else if (sscanf(line, "R %u", &n) == 1 && n >= 1 && n < sizeof refusals / sizeof *refusals)
-        snprintf(said, sizeof said, "refused, %s", refusals[n]);
+    char said[128] = "", band[16] = "-";
+    if (line->band != BULAMEKI_NO_BAND)
+        snprintf(band, sizeof band, "%" PRId32, line->band);
+    if (line->letter == 'P')
+        snprintf(said, sizeof said, "at %g, %g, steps %" PRIu32, line->x, line->y, line->number);
+    else if (line->letter == 'C')
+        snprintf(said, sizeof said, "band %s, at %g, %g, width %g", band, line->x, line->y, line->width);
+    else if (line->letter == 'B')
+        snprintf(said, sizeof said, "band %s, at %g, %g, border %g, stretch %g", band, line->x, line->y, line->width,
+                 line->stretch);
+    else if (line->letter == 'I')
+        snprintf(said, sizeof said, "width %g", line->width);
+    else if (line->letter == 'R' && line->number >= 1 && line->number < sizeof refusals / sizeof *refusals)
+        snprintf(said, sizeof said, "refused, %s", refusals[line->number]);
     if (said[0])
-        printf("%-40s %s\n", line, said);
+        printf("%-40.*s %s\n", (int)len - 1, (const char *)bytes, said);
     else
-        puts(line);
+        printf("%.*s\n", (int)len - 1, (const char *)bytes);
 }
 
 int main(void)
 {
     struct tape tape = {{0}, 0};
     uint8_t answers[BULAMEKI_ROOM(sizeof tape.bytes)];
+    struct bulameki_line line;
     int64_t written;
-    size_t at;
+    size_t at, took;
+
+    if (bulameki_environment() != 0) {
+        fprintf(stderr, "page: this floating-point environment gives wrong answers, faults %u\n", bulameki_environment());
+        return 1;
+    }
 
     page_width(&tape, 480);
     box(&tape, BULAMEKI_LEFT, 96, 48, 0, BULAMEKI_CLEAR_NONE);
@@ -160,12 +158,13 @@ int main(void)
         return 1;
     }
     printf("a tape of %zu bytes gives %" PRId64 " bytes of lines\n", tape.len, written);
-    for (at = 0; at < (size_t)written;) {
-        char *line = (char *)answers + at;
-        char *end = memchr(line, '\n', (size_t)written - at);
-        *end = '\0';
-        print_line(line);
-        at += (size_t)(end - line) + 1;
+    for (at = 0; at < (size_t)written; at += took) {
+        took = bulameki_read_line(answers + at, (size_t)written - at, &line);
+        if (took == 0) {
+            fprintf(stderr, "page: no line begins at byte %zu of the answers\n", at);
+            return 1;
+        }
+        print_line(answers + at, took, &line);
     }
 
     /* One byte too little: nothing at all is written. */

@@ -62,6 +62,15 @@ pub fn panel_of_nothing() -> i64 {
     unsafe { bulameki_run_tape(std::ptr::null(), 0, std::ptr::null_mut(), 0) }
 }
 
+/// `bulameki_run_tape` on a tape that others may change meanwhile, into room that nothing else refers to.
+///
+/// # Safety
+/// The pointers are those of so many bytes, which stay where they are.
+#[cfg(has_panel)]
+pub unsafe fn panel_raw(tape: *const u8, tape_len: usize, answers: *mut u8, room: usize) -> i64 {
+    bulameki_run_tape(tape, tape_len, answers, room)
+}
+
 /// How deep the stack of `bulameki_run_tape` is on a tape, its return address counted: it runs on a painted one.
 #[cfg(has_panel)]
 pub fn panel_stack(tape: &[u8]) -> usize {

@@ -1,6 +1,6 @@
 //! Runs tapes through an archive and the judge, compares every byte, and shrinks a tape on which they differ.
 
-use crate::archive::{difference, Runner};
+use crate::archive::{difference, room, Runner};
 use crate::float_counted::Band;
 use crate::judge::{Answer, Counts, Judge};
 use crate::tape::{self, body_length, bytes, Field, Record, BODIES, LONGEST, NONE};
@@ -20,7 +20,8 @@ pub struct Found {
 
 fn first_difference(run: Runner, tape: &[u8], more: Option<usize>) -> Option<String> {
     let lines = crate::judge::lines(tape);
-    more.into_iter().chain(rooms(lines.len())).find_map(|room| difference(run, tape, &lines, room))
+    let rooms = rooms(lines.len()).into_iter().chain([room(tape)]);
+    more.into_iter().chain(rooms).find_map(|room| difference(run, tape, &lines, room))
 }
 
 /// The tape cut into its records; what begins no record is the last piece.
@@ -133,10 +134,12 @@ impl Driver {
         Err(Found { tape, report })
     }
 
-    /// One tape, in a room to spare by a few bytes and, each eighth time, in one that is a byte too short.
+    /// One tape, in a room to spare by a few bytes or, each fourth time, in one that is surely enough, where a tape is run once and
+    /// not counted first; and, each eighth time, in one that is a byte too short.
     pub fn tape(&mut self, tape: &[u8]) -> Result<(), Found> {
         let lines = self.judged(tape);
-        self.run(tape, &lines, lines.len() + (self.tapes % 9) as usize)?;
+        let room = if self.tapes % 4 == 1 { room(tape) } else { lines.len() + (self.tapes % 9) as usize };
+        self.run(tape, &lines, room)?;
         if self.tapes % 8 == 0 && !lines.is_empty() {
             self.run(tape, &lines, lines.len() - 1)?;
         }

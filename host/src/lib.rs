@@ -11,6 +11,7 @@ include!(concat!(env!("OUT_DIR"), "/oracle.rs"));
 #[cfg(has_taffy)]
 pub mod answers;
 pub mod archive;
+pub mod boundaries;
 #[cfg(has_taffy)]
 pub mod call;
 #[cfg(all(has_taffy, has_panel))]

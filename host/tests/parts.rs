@@ -12,11 +12,12 @@ fn what_is_missing_is_said() {
     }
 }
 
-/// The gate names in HOST_NEEDS the archives of the crates that crates.txt lists.
+/// The gate names in HOST_NEEDS the archives of the crates that crates.txt lists, and taffy for the runs beside it.
 #[test]
 fn what_is_needed_is_here() {
     for part in std::env::var("HOST_NEEDS").unwrap_or_default().split(',').filter(|part| !part.is_empty()) {
         let here = match part {
+            "taffy" => cfg!(has_taffy),
             "panel" => cfg!(has_panel),
             "probe" => cfg!(has_probe),
             _ => false,

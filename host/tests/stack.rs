@@ -1,0 +1,26 @@
+//! The stack that the C header says a call takes is the one that it takes.
+#![cfg(has_panel)]
+
+use host::archive::panel_stack;
+use host::stored;
+use std::path::Path;
+
+/// As include/bulameki.h has it, on one line.
+fn said() -> usize {
+    let header = include_str!("../../include/bulameki.h");
+    let line = header.lines().find_map(|line| line.strip_prefix("#define BULAMEKI_STACK "));
+    line.expect("the header says how deep the stack is").trim().parse().expect("in one number")
+}
+
+#[test]
+fn is_as_the_header_says() {
+    let file = Path::new(env!("CARGO_MANIFEST_DIR")).join("../crates/replay/stdin");
+    let tapes = stored::read(&std::fs::read(file).unwrap()).expect("crates/replay/stdin breaks off");
+    let deepest = tapes.iter().step_by(10).map(|(tape, _)| panel_stack(tape)).max().unwrap();
+    assert!(deepest > 0);
+    assert_eq!(
+        said(),
+        deepest,
+        "BULAMEKI_STACK of include/bulameki.h, and what each tenth of the stored tapes takes at most"
+    );
+}
