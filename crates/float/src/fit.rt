@@ -25,7 +25,7 @@ fn passes(inset: f32, far: f32, page: f32, bound: f32) -> bool
 }
 
 // x of the paper: where the box would stand, by its lead side.
-pub fn placed_at(a: Ask, lead: f32) -> f32
+pub(crate) fn placed_at(a: Ask, lead: f32) -> f32
     ensures { λ r. ⌜ r ≡ placedAt a lead ⌝ }
 {
     number::larger(lead, a.cb_lead)

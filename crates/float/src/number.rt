@@ -25,13 +25,13 @@ pub fn smaller(a: f32, b: f32) -> f32
     if b < a { b } else { a }
 }
 
-pub fn larger_n(a: usize, b: usize) -> usize
+pub(crate) fn larger_n(a: usize, b: usize) -> usize
     ensures { λ r. ⌜ r ≡ max a b ⌝ }
 {
     if b < a { a } else { b }
 }
 
-pub fn smaller_n(a: usize, b: usize) -> usize
+pub(crate) fn smaller_n(a: usize, b: usize) -> usize
     ensures { λ r. ⌜ r ≡ min a b ⌝ }
 {
     if a < b { a } else { b }

@@ -103,21 +103,6 @@ fn tall(a: Ask, j: Reach) -> bool
     std::num::f32_to_f64_with_nan(a.height) <= j.height
 }
 
-// Rule 3: the first band from f on that ends below y.
-pub fn first_below(bands: [Segment; 96], n: usize, f: usize, y: f32) -> usize
-    requires { ⌜ n ≤ 96 ⌝ }
-    ensures { λ r. ⌜ r ≡ firstBelow (take n bands) f y ⌝ }
-{
-    let mut i = f;
-    while i < n {
-        if bands[i].end > y {
-            return i;
-        }
-        i += 1;
-    }
-    n
-}
-
 // Rules 3 and 4 for the bands from f on, in one function so that the bands are handed over once. A start that is given up leaves the end where it was.
 pub fn look(bands: [Segment; 96], n: usize, f: usize, min_y: f32, ask: Ask) -> Spot
     requires { ⌜ n ≤ 96 ⌝ }
