@@ -58,7 +58,7 @@ few c = omega (arith, c .before .before .before .before .before .loop .inv .2, c
 
 -- both loops leave at what the question looks for
 found : (c : tie.Joined4 Inv-loop2 μ-loop2 Inv-loop3 μ-loop3 Inv-loop4 μ-loop4 Inv-loop5 μ-loop5 Inv-loop μ-loop) → Found (c .before .before .before .before .before .before .before .before .before .before .before .before .before .before .loop .bands) (c .before .before .before .before .before .before .before .before .before .asking .result .quest) (c .before .before .before .before .before .before .loop2 .i) (c .before .before .loop3 .k)
-found c = 
+found c =
     let r = few (c .before .before .before .before .before .before .before .before .before) in
     record {
       at = ⊎-elim (λ w. scan-ends r (c .before .before .before .before .before .before .loop2 .inv) (w .left)) (λ w. scan-finds r (c .before .before .before .before .before .before .loop2 .inv) (w .0 .taken) (w .2 .taken)) (c .before .before .before .before .if2 .came);
@@ -86,7 +86,7 @@ end-in c = walking-in (c .before .before .before .before .before .before .before
 
 -- what the placement does, by its numbers
 entered : (c : tie.After-enter Inv-loop2 μ-loop2 Inv-loop3 μ-loop3 Inv-loop4 μ-loop4 Inv-loop5 μ-loop5 Inv-loop μ-loop) → Enters (c .before .before .before .before .before .before .before .before .before .before .before .before .before .before .before .before .before .before .before .before .before .before .before .loop .bands) (c .before .before .before .before .before .before .before .before .before .before .before .before .before .before .before .before .before .before .before .before .before .before .before .loop .boxes) (c .before .before .before .before .before .before .before .before .before .before .before .before .before .before .before .before .before .before .before .before .before .before .before .loop .head) (places (c .before .before .before .before .before .before .before .before .before .before .before .before .before .before) .call) (c .before .before .before .before .before .before .before .before .before .before .before .before .before .before .before .before .placing .result .admission .ask) (c .enter .result)
-entered c = 
+entered c =
     let l = c .before .before .before .before .before .before .before .before .before .before .before .before .before .before .before .before .before .before .before .before .before .before .before .loop in
     let p = places (c .before .before .before .before .before .before .before .before .before .before .before .before .before .before) in
     c .enter .ensures (p .call) (l .bands) (l .boxes) (l .inv .2) (l .inv .3) (p .admits) (p .passed) (c .before .before .before .before .before .before .before .before .before .before .before .before .look .ensures)
@@ -101,12 +101,12 @@ room c = entered (c .before) .room (c .if8 .taken)
 
 -- the page after the placement, written or refused
 done : (c : tie.Joined8 Inv-loop2 μ-loop2 Inv-loop3 μ-loop3 Inv-loop4 μ-loop4 Inv-loop5 μ-loop5 Inv-loop μ-loop) → (placeOf (pageWith (c .before .before .before .before .before .before .before .before .before .before .before .before .before .before .before .before .before .before .before .before .before .before .before .before .loop .head) (c .before .before .before .before .before .before .before .before .before .before .before .before .before .before .before .before .before .before .before .before .before .before .before .before .loop .bands) (c .before .before .before .before .before .before .before .before .before .before .before .before .before .before .before .before .before .before .before .before .before .before .before .before .loop .boxes)) (places (c .before .before .before .before .before .before .before .before .before .before .before .before .before .before .before) .call) ≡ record { answer = c .before .enter .result .answer; page = (pageWith (c .if8 .head) (c .if8 .bands) (c .if8 .boxes)) }) × (length (c .if8 .bands) ≡ 96) × (length (c .if8 .boxes) ≡ 64)
-done c = 
+done c =
     let l = c .before .before .before .before .before .before .before .before .before .before .before .before .before .before .before .before .before .before .before .before .before .before .before .before .loop in
     ⊎-elim
     (λ w.
-        let t = writing-end (c .before .before .before .before .before .before .before .before .before .before .before .before .before .before .before .before .before .placing .result .admission .ask) (c .before .enter .result .plan) (l .bands) (w .2 .bands) (w .2 .j) (w .2 .inv) (w .4 .left) in
-        (of-parts (entered (c .before) .accepted (w .0 .taken) (w .2 .bands) t) (w .9) (w .7) (w .8), ap length (w .7) ∙ t .long ∙ l .inv .2, ap length (w .8) ∙ length-set (l .boxes) (l .head .«box_count») (c .before .enter .result .floated) ∙ l .inv .3))
+    let t = writing-end (c .before .before .before .before .before .before .before .before .before .before .before .before .before .before .before .before .before .placing .result .admission .ask) (c .before .enter .result .plan) (l .bands) (w .2 .bands) (w .2 .j) (w .2 .inv) (w .4 .left) in
+    (of-parts (entered (c .before) .accepted (w .0 .taken) (w .2 .bands) t) (w .9) (w .7) (w .8), ap length (w .7) ∙ t .long ∙ l .inv .2, ap length (w .8) ∙ length-set (l .boxes) (l .head .«box_count») (c .before .enter .result .floated) ∙ l .inv .3))
     (λ w. (of-parts (entered (c .before) .refused (w .0 .left)) (w .3) (w .1) (w .2), ap length (w .1) ∙ l .inv .2, ap length (w .2) ∙ l .inv .3))
     (c .if8 .came)
 
@@ -119,7 +119,7 @@ placement c = λ m e.
 
 -- any other record
 other : (c : tie.After-turn Inv-loop2 μ-loop2 Inv-loop3 μ-loop3 Inv-loop4 μ-loop4 Inv-loop5 μ-loop5 Inv-loop μ-loop) → Turned (stateOf (pageWith (c .before .before .before .before .before .before .before .before .before .before .before .loop .head) (c .before .before .before .before .before .before .before .before .before .before .before .loop .bands) (c .before .before .before .before .before .before .before .before .before .before .before .loop .boxes)) (c .before .before .before .before .before .before .before .before .before .before .before .loop .calculator)) (getD (now (c .before .before .before .before .before .before .before .before .before .before .before .before .before .before .before .before .before .before .args .tape)) (c .before .before .before .before .before .before .before .before .before .before .before .loop .at) 0) (take (length (now (c .before .before .before .before .before .before .before .before .before .before .before .before .before .before .before .before .before .before .args .tape)) - (c .before .before .before .before .before .before .before .before .before .before .before .loop .at + 1)) (drop (c .before .before .before .before .before .before .before .before .before .before .before .loop .at + 1) (now (c .before .before .before .before .before .before .before .before .before .before .before .before .before .before .before .before .before .before .args .tape)))) (c .before .before .before .before .before .before .before .before .before .before .before .loop .at) (stateOf (pageWith (c .turn .result .head) (c .before .before .before .before .before .before .before .before .before .before .before .loop .bands) (c .before .before .before .before .before .before .before .before .before .before .before .loop .boxes)) (c .turn .result .calculator)) (c .turn .result .next) (c .turn .last .1 .1 .1 .1 .1 .1 .1 .0) (c .turn .result .len)
-other c = 
+other c =
     let l = c .before .before .before .before .before .before .before .before .before .before .before .loop in
     let x = length-take (length (now (c .before .before .before .before .before .before .before .before .before .before .before .before .before .before .before .before .before .before .args .tape)) - (l .at + 1)) (drop (l .at + 1) (now (c .before .before .before .before .before .before .before .before .before .before .before .before .before .before .before .before .before .before .args .tape))) in
     let y = length-drop (l .at + 1) (now (c .before .before .before .before .before .before .before .before .before .before .before .before .before .before .before .before .before .before .args .tape)) in
@@ -132,7 +132,7 @@ fresh-head-requires : tie.Need-fresh-head-requires Inv-loop2 μ-loop2 Inv-loop3 
 fresh-head-requires c κs = search needs
 
 loop-holds : tie.Need-loop-holds Inv-loop2 μ-loop2 Inv-loop3 μ-loop3 Inv-loop4 μ-loop4 Inv-loop5 μ-loop5 Inv-loop μ-loop
-loop-holds c = 
+loop-holds c =
     let n = c .before .before .before .new .ensures in
     (going-fresh _ _ _ _ _ _ (c .fresh-head .ensures) (c .before .before .before .before .before .before .pre .0), length-replicate {A = ℕ} 80 0, bands-long n, boxes-long n)
 
@@ -227,7 +227,7 @@ put-line-requires : tie.Need-put-line-requires Inv-loop2 μ-loop2 Inv-loop3 μ-l
 put-line-requires c κs = let t = question (c .before .before .before) _ refl in (going-room _ _ _ (c .before .before .before .before .before .before .before .before .before .before .before .before .before .before .before .before .before .before .before .before .before .before .before .loop .inv .0) (c .before .before .before .before .before .before .before .before .before .before .before .before .before .before .before .before .before .before .before .before .before .before .loop-test .taken) t (c .before .before .before .before .before .before .before .before .before .before .before .before .before .before .before .before .before .before .before .before .before .before .before .before .before .before .before .before .before .before .pre .1), t .fits)
 
 add-to : tie.Need-add-to Inv-loop2 μ-loop2 Inv-loop3 μ-loop3 Inv-loop4 μ-loop4 Inv-loop5 μ-loop5 Inv-loop μ-loop
-add-to c = 
+add-to c =
     let l = c .before .before .before .before .before .before .before .before .before .before .before .before .before .before .before .before .before .before .before .before .before .before .before .before .before .before .loop in
     let t = question (c .before .before .before .before .before .before) _ refl in
     omega (arith, c .before .before .before .before .before .before .before .before .before .before .before .before .before .before .before .before .before .before .before .before .before .before .before .before .before .before .before .before .before .before .before .before .before .pre .0, l .inv .0 .few, l .inv .0 .inside, t .fits, c .before .before .before .before .before .before .found-line .kept .1 .1 .1 .1 .1 .1 .1 .0, l .inv .1)
@@ -245,7 +245,7 @@ loop-less : tie.Need-loop-less Inv-loop2 μ-loop2 Inv-loop3 μ-loop3 Inv-loop4 �
 loop-less c = let t = question (c .before .before .before .before .before .before .before) _ (c .body-len .ensures) in omega (arith, c .before .before .before .before .before .before .before .before .before .before .before .before .before .before .before .before .before .before .before .before .before .before .before .before .before .before .loop-test .taken, t .on)
 
 loop-again : tie.Need-loop-again Inv-loop2 μ-loop2 Inv-loop3 μ-loop3 Inv-loop4 μ-loop4 Inv-loop5 μ-loop5 Inv-loop μ-loop
-loop-again c = 
+loop-again c =
     let l = c .before .before .before .before .before .before .before .before .before .before .before .before .before .before .before .before .before .before .before .before .before .before .before .before .before .before .before .loop in
     let t = question (c .before .before .before .before .before .before .before) _ (c .body-len .ensures) in
     let p = c .before .before .before .put-line in
@@ -336,7 +336,7 @@ loop5-less : tie.Need-loop5-less Inv-loop2 μ-loop2 Inv-loop3 μ-loop3 Inv-loop4
 loop5-less c = omega (arith, c .before .before .before .if9 .taken)
 
 loop5-again : tie.Need-loop5-again Inv-loop2 μ-loop2 Inv-loop3 μ-loop3 Inv-loop4 μ-loop4 Inv-loop5 μ-loop5 Inv-loop μ-loop
-loop5-again c = 
+loop5-again c =
     let l = c .before .before .before .before .before .loop5 in
     let h = room (c .before .before .before .before .before .before .before) .1 in
     writing-next _ _ _ (l .bands) (l .j) (l .inv) (omega (arith, h, c .before .before .before .before .before .before .before .before .before .before .before .before .before .before .before .before .before .before .before .before .before .before .before .before .before .before .before .before .before .before .before .loop .inv .2)) (c .before .before .before .if9 .taken) _ (c .before .before .source .ensures) _ (c .shaped .ensures)
@@ -360,7 +360,7 @@ put-line-requires-2 : tie.Need-put-line-requires-2 Inv-loop2 μ-loop2 Inv-loop3 
 put-line-requires-2 c κs = let t = placement (c .before .before .before) _ refl in (going-room _ _ _ (c .before .before .before .before .before .before .before .before .before .before .before .before .before .before .before .before .before .before .before .before .before .before .before .before .before .before .before .before .before .loop .inv .0) (c .before .before .before .before .before .before .before .before .before .before .before .before .before .before .before .before .before .before .before .before .before .before .before .before .before .before .before .before .loop-test .taken) t (c .before .before .before .before .before .before .before .before .before .before .before .before .before .before .before .before .before .before .before .before .before .before .before .before .before .before .before .before .before .before .before .before .before .before .before .before .pre .1), t .fits)
 
 add-to-2 : tie.Need-add-to-2 Inv-loop2 μ-loop2 Inv-loop3 μ-loop3 Inv-loop4 μ-loop4 Inv-loop5 μ-loop5 Inv-loop μ-loop
-add-to-2 c = 
+add-to-2 c =
     let l = c .before .before .before .before .before .before .before .before .before .before .before .before .before .before .before .before .before .before .before .before .before .before .before .before .before .before .before .before .before .before .before .before .loop in
     let t = placement (c .before .before .before .before .before .before) _ refl in
     omega (arith, c .before .before .before .before .before .before .before .before .before .before .before .before .before .before .before .before .before .before .before .before .before .before .before .before .before .before .before .before .before .before .before .before .before .before .before .before .before .before .before .pre .0, l .inv .0 .few, l .inv .0 .inside, t .fits, c .before .before .before .before .before .before .place-line .kept .0, l .inv .1)
@@ -378,7 +378,7 @@ loop-less-2 : tie.Need-loop-less-2 Inv-loop2 μ-loop2 Inv-loop3 μ-loop3 Inv-loo
 loop-less-2 c = let t = placement (c .before .before .before .before .before .before .before) _ (c .body-len2 .ensures) in omega (arith, c .before .before .before .before .before .before .before .before .before .before .before .before .before .before .before .before .before .before .before .before .before .before .before .before .before .before .before .before .before .before .before .before .loop-test .taken, t .on)
 
 loop-again-2 : tie.Need-loop-again-2 Inv-loop2 μ-loop2 Inv-loop3 μ-loop3 Inv-loop4 μ-loop4 Inv-loop5 μ-loop5 Inv-loop μ-loop
-loop-again-2 c = 
+loop-again-2 c =
     let l = c .before .before .before .before .before .before .before .before .before .before .before .before .before .before .before .before .before .before .before .before .before .before .before .before .before .before .before .before .before .before .before .before .before .loop in
     let t = placement (c .before .before .before .before .before .before .before) _ (c .body-len2 .ensures) in
     let p = c .before .before .before .put-line2 in
@@ -398,7 +398,7 @@ put-line-requires-3 : tie.Need-put-line-requires-3 Inv-loop2 μ-loop2 Inv-loop3 
 put-line-requires-3 c κs = let t = other (c .before .before .before .before) in (going-room _ _ _ (c .before .before .before .before .before .before .before .before .before .before .before .before .before .before .before .loop .inv .0) (c .before .before .before .before .before .before .before .before .before .before .before .before .before .before .loop-test .taken) t (c .before .before .before .before .before .before .before .before .before .before .before .before .before .before .before .before .before .before .before .before .before .before .pre .1), t .fits)
 
 add-to-3 : tie.Need-add-to-3 Inv-loop2 μ-loop2 Inv-loop3 μ-loop3 Inv-loop4 μ-loop4 Inv-loop5 μ-loop5 Inv-loop μ-loop
-add-to-3 c = 
+add-to-3 c =
     let l = c .before .before .before .before .before .before .before .before .before .before .before .before .before .before .before .before .before .before .before .loop in
     let t = other (c .before .before .before .before .before .before .before .before) in
     omega (arith, c .before .before .before .before .before .before .before .before .before .before .before .before .before .before .before .before .before .before .before .before .before .before .before .before .before .before .pre .0, l .inv .0 .few, l .inv .0 .inside, t .fits, c .before .before .before .before .before .before .before .before .turn .kept .1 .1 .1 .1 .1 .1 .1 .0, l .inv .1)
@@ -407,7 +407,7 @@ loop-less-3 : tie.Need-loop-less-3 Inv-loop2 μ-loop2 Inv-loop3 μ-loop3 Inv-loo
 loop-less-3 c = let t = other (c .before .before .before .before .before .before .before .before) in omega (arith, c .before .before .before .before .before .before .before .before .before .before .before .before .before .before .before .before .before .before .loop-test .taken, t .on)
 
 loop-again-3 : tie.Need-loop-again-3 Inv-loop2 μ-loop2 Inv-loop3 μ-loop3 Inv-loop4 μ-loop4 Inv-loop5 μ-loop5 Inv-loop μ-loop
-loop-again-3 c = 
+loop-again-3 c =
     let l = c .before .before .before .before .before .before .before .before .before .before .before .before .before .before .before .before .before .before .before .loop in
     let t = other (c .before .before .before .before .before .before .before .before) in
     let p = c .before .before .before .put-line3 in
