@@ -172,9 +172,10 @@ fn kinds_and_bodies(cases: &mut Cases) {
     }
     // offsets of one digit to five
     for before in [0, 9, 10, 99, 100, 999, 1_000, 9_999, 10_000, LONGEST - 1] {
-        let mut tape = vec![7; before];
-        tape.push(8);
-        cases.ends_so(&tape, &[&format!("T {before}")]);
+        for stop in [&[8][..], &[1, 0, 0, 0]] {
+            let tape = [&vec![7; before.min(LONGEST - stop.len())], stop].concat();
+            cases.ends_so(&tape, &[&format!("T {}", tape.len() - stop.len())]);
+        }
     }
 }
 
@@ -275,6 +276,38 @@ fn bands(cases: &mut Cases) {
         &[&crowded[..], &[clearing(LEFT, 1.0, MOST, 1), at(RIGHT, 1.0, 5.0, MOST)]].concat(),
         &["P*", "R 5", "R 5"],
     );
+}
+
+/// Band numbers of one digit and two, up to the last of 96, and heights in it.
+fn numbers_of_bands(cases: &mut Cases) {
+    let end = 100.0 + MOST;
+    for bands in [10, 11, 95, 96] {
+        let last = bands as u16 - 1;
+        let asked = |after: u16| [&banded(bands)[..], &[content(-5.0, after), bfc(-5.0, after)]].concat();
+        cases.ends(&asked(last - 1), &[&format!("C {last} *"), &format!("B {last} *")]);
+        cases.ends(&asked(last), &["C - *", "B - *"]);
+        let at_the_end = |min_y: f32| [&banded(bands)[..], &[content(min_y, NONE), bfc(min_y, NONE)]].concat();
+        cases.ends(&at_the_end(below(end).min(MOST)), &[&format!("C {last} *"), &format!("B {last} *")]);
+    }
+}
+
+/// A page of this many bands below 0, each a box's height; from the one of number `wide` + 1 on a container ends 50 before the edge.
+fn stairs(bands: usize, wide: usize) -> Vec<Record> {
+    let inset = |number: usize| if number > wide { 50.0 } else { 0.0 };
+    let stair = |number: usize| within(LEFT, 1.0 / 64.0, number as f32, [0.0, inset(number)]);
+    [Width(100.0)].into_iter().chain((1..=bands).map(stair)).collect()
+}
+
+/// Step counts of one digit, two and three: a box that fits nowhere gives up each start, one that fits alone also ends.
+fn steps(cases: &mut Cases) {
+    for bands in [9, 10, 11, 62] {
+        let page = [&stairs(bands, bands)[..], &[plain(LEFT, 100.0, 1.0)]].concat();
+        cases.ends(&page, &[&placed(0.0, bands as f32, bands)]);
+    }
+    for ends in [36, 37, 38, 39] {
+        let page = [&stairs(62, ends + 1)[..], &[plain(LEFT, 60.0, 100.0)]].concat();
+        cases.ends(&page, &[&placed(0.0, 62.0, 62 + ends + 1)]);
+    }
 }
 
 /// A bottom of 131,072 stands, and no lower one; the sum is rounded, so the tie goes to the even one.
@@ -399,7 +432,7 @@ fn edges_of_bands(cases: &mut Cases) {
 
 /// Every case, by what it is about.
 pub fn all() -> Vec<(&'static str, Vec<Case>)> {
-    let groups: [(&str, fn(&mut Cases)); 13] = [
+    let groups: [(&str, fn(&mut Cases)); 15] = [
         ("limits of numbers", limits_of_numbers),
         ("codes", codes),
         ("kinds and bodies", kinds_and_bodies),
@@ -408,6 +441,8 @@ pub fn all() -> Vec<(&'static str, Vec<Case>)> {
         ("after", after),
         ("boxes", boxes),
         ("bands", bands),
+        ("numbers of bands", numbers_of_bands),
+        ("steps", steps),
         ("bottoms", bottoms),
         ("sums", sums),
         ("definite", definite),
