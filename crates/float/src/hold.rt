@@ -66,13 +66,13 @@ pub fn widen(head: Head, width: f32) -> Widening
     if let Check::Refused(n) = check {
         return Widening {
             answer: Done::Refused(n),
-            head: head,
+            head,
         };
     }
     if 0 < head.box_count {
         return Widening {
             answer: Done::Refused(Refusal::WidthFixed),
-            head: head,
+            head,
         };
     }
     let mut after = head;
