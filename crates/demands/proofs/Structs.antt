@@ -15,7 +15,7 @@ unfolding pageOf stored front
 page-stored q p = simp take-append-seam
 
 pub page-fresh : pageOf freshContext ≡ fresh
-unfolding pageOf freshContext fresh
+unfolding fresh
 page-fresh = refl
 
 -- ---- a refused placement leaves the page
