@@ -24,7 +24,7 @@ use Rattle.float.specs.Bands.{sameSide, other, lead, none}
 use Rattle.float.specs.Page.{Page, pageOf, stored}
 use Rattle.float.specs.Calculator.{addOf}
 use Rattle.float.specs.Fit.{fits}
-use Rattle.float.specs.Place.{Call, cleaned, numbers, inputCheck, askOf, spotOf, place, placedPage, placeOf, setWidth, widthOf, ifDone}
+use Rattle.float.specs.Place.{Call, cleaned, numbers, inputCheck, askOf, spotOf, place, placedPage, placeOf, withWidth, widthOf, ifDone}
 use Rattle.float.specs.Slot.{content}
 use Rattle.demands.specs.Runs.{Each, Pairs, Act, box, boxIn, next, run, after, pageIn, bandsIn, Stays, handed, Handed, F32, Whole64, insetAt, NoSmaller, EdgeToEdge, StartSplit, EndSplit, sideIn, containingLead, containingTrail, xFrom, bottom, rightEdge, farInset, LowEnough, ExactSum, contentAt, Between, sized, shareHeight, overlap, fitsExactly, Joins, Page64}
 use Rattle.demands.proofs.Steps.{StepsTo, place-few}
@@ -91,7 +91,7 @@ refused-box p c n e = subst (λ (a : PlaceAnswer). placedPage a (place (pageOf p
 
 pub refused-width : (p : FloatContext) (w : Float) (n : Refusal) → widthOf p w .answer ≡ Done.Refused n → widthOf p w .page ≡ p
 unfolding widthOf
-refused-width p w n e = subst (λ (d : Done). ifDone d (stored (setWidth (pageOf p) w) p) p ≡ p) (sym e) refl
+refused-width p w n e = subst (λ (d : Done). ifDone d (stored (withWidth (pageOf p) (plusZero w)) p) p ≡ p) (sym e) refl
 
 pub refused-add : (c : FloatIntrinsicWidthCalculator) (w : Float) (side clear : ℕ) (n : Refusal) → addOf c w side clear .answer ≡ Done.Refused n → addOf c w side clear .calculator ≡ c
 refused-add c w side clear n e = subst (λ (d : Done). LeftAs c (record { answer = d; calculator = addOf c w side clear .calculator })) e (add-left c w side clear)

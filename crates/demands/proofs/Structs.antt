@@ -15,7 +15,7 @@ unfolding pageOf stored front
 page-stored q p = simp take-append-seam
 
 pub page-fresh : pageOf freshContext ≡ fresh
-unfolding pageOf freshContext fresh
+unfolding fresh
 page-fresh = refl
 
 -- ---- a refused placement leaves the page
@@ -37,6 +37,6 @@ pub page-widened : (p : FloatContext) (w : Float) → pageOf (widthOf p w .page)
 unfolding widthOf setWidth
 page-widened p w = go (widthCheck (pageOf p .boxes) (plusZero w))
   where
-    go : (d : Done) → pageOf (ifDone d (stored (ifDone d (withWidth (pageOf p) (plusZero w)) (pageOf p)) p) p) ≡ ifDone d (withWidth (pageOf p) (plusZero w)) (pageOf p)
+    go : (d : Done) → pageOf (ifDone d (stored (withWidth (pageOf p) (plusZero w)) p) p) ≡ ifDone d (withWidth (pageOf p) (plusZero w)) (pageOf p)
     go Done.Accepted = page-stored (withWidth (pageOf p) (plusZero w)) p
     go (Done.Refused n) = refl

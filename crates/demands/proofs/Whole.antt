@@ -28,7 +28,7 @@ use Rattle.float.specs.declared.search.Spot.{Spot}
 use Rattle.float.specs.Numbers.{plusZero, inReach, size, allAllowed}
 use Rattle.float.specs.Refuse.{sideOf, clearOf}
 use Rattle.float.specs.Bands.{onSide, other, none, firstBelow}
-use Rattle.float.specs.Page.{Kept, Page, fresh, noBox, maxBands, maxBoxes}
+use Rattle.float.specs.Page.{Kept, Page, pageOf, freshContext, fresh, noBox, maxBands, maxBoxes}
 use Rattle.float.specs.Clear.{clearedPast}
 use Rattle.float.specs.Place.{Call, cleaned, numbers, Result, lowest, firstOf, firstAllowed, askOf, spotOf, Made, make, keep, recorded, boxOf, counted, xOf, refuse, near, high, flat, put, admitted, checked, place, widthCheck, withWidth, ifDone, setWidth}
 use Rattle.demands.specs.Runs.{Each, Pairs, Accepted, boxIn, lastInset, noted, box, handed, F32, containingLead, xFrom, LowEnough}
@@ -73,7 +73,7 @@ pub record Inv (p : Page) (g : List Accepted) : Type 0 where
   pub ceiling : BottomIs Val (p .ceiling)
 
 pub fresh-inv : Inv fresh []
-unfolding fresh
+unfolding fresh pageOf freshContext
 fresh-inv = record {
   width = ins-zero;
   chain = tt;

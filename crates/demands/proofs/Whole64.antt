@@ -19,7 +19,7 @@ use Rattle.f32_laws.proofs.Index64.{at64-key}
 use Rattle.f32_laws.proofs.Is64.{of64}
 use Rattle.float.specs.Numbers.{most, least, plusZero, within, Given, size, offset, value, allowed, allAllowed}
 use Rattle.float.specs.Refuse.{sideOf}
-use Rattle.float.specs.Page.{Page, fresh, maxBoxes}
+use Rattle.float.specs.Page.{Page, pageOf, freshContext, fresh, maxBoxes}
 use Rattle.float.specs.Place.{Call, cleaned, numbers, Result, lowest, askOf, spotOf, admitted, checked, place, withWidth, ifDone, setWidth}
 use Rattle.demands.specs.Runs.{Each, Accepted, boxIn, noted, box, handed, F32, Whole64}
 use Rattle.demands.proofs.Laws.{k, B, Ins, on-either}
@@ -103,7 +103,7 @@ wide64 p l w v f s =
     go (a ∷ l) v e i t u = absurd (not-suc-le-zero {n = 0} (omega arith))
 
 pub fresh64 : Inv64 fresh []
-unfolding fresh
+unfolding fresh pageOf freshContext
 fresh64 = record {
   inv = fresh-inv;
   width = q-zero;

@@ -1,6 +1,6 @@
 -- From what the leaves of a placement answer to its definitions: what is asked, rule 2; and the width.
 use Prim.Native.Nat.{ℕ, suc, _+_, _≤_, _<_, min, max}
-use mathlib.Core.Path.{_≡_, sym, subst}
+use mathlib.Core.Path.{_≡_, sym, _∙_, subst}
 use mathlib.Core.Bool.{true}
 use mathlib.Core.List.{[], _∷_}
 use native.Mathlib.Omega.{arith}
@@ -21,9 +21,9 @@ use Rattle.float.specs.Bands.{onSide}
 use Rattle.float.specs.Clear.{clearedPast}
 use Rattle.float.specs.Page.{Page, pageOf, front, stored}
 use Rattle.float.specs.Head.{headOf, pageWith}
-use Rattle.float.specs.Place.{Call, askOf, firstAllowed, widthCheck, setWidth, widthOf}
+use Rattle.float.specs.Place.{Call, askOf, firstAllowed, widthCheck, withWidth, widthOf}
 use Rattle.float.specs.Refuse.{sideOf, checkOf}
-use Rattle.float.proofs.Front.{front-nil, front-live}
+use Rattle.float.proofs.Front.{front-live}
 
 -- what is asked of a place, from its numbers
 pub asked : (w h pw l r : Float) (s : FloatDirection) (p : Page) (c : Call) → p .width ≡ pw → c .width ≡ w → c .height ≡ h → c .left ≡ l → c .right ≡ r → sideOf (c .side) ≡ s
@@ -63,13 +63,15 @@ module _ (p : FloatContext) (w v : Float) (k : Check) (f : v ≡ plusZero w) (g 
 
   pub width-set : (n : ℕ) → length (p .bands) ≡ 96 → k ≡ Check.Passed → p .«box_count» ≤ 0 → n ≡ min (p .count) 96
       → _≡_ {A = Widened} (record { answer = Done.Accepted; page = record { width = v; bands = p .bands; count = n; boxes = p .boxes; «box_count» = p .«box_count»; «left_bottom» = p .«left_bottom»; «right_bottom» = p .«right_bottom»; ceiling = p .ceiling; «left_first» = p .«left_first»; «left_past» = p .«left_past»; «right_first» = p .«right_first»; «right_past» = p .«right_past» } }) (widthOf p w)
-  unfolding widthOf widthCheck setWidth pageOf stored
+  unfolding widthOf widthCheck pageOf stored
   width-set n h e b m =
       let z : p .«box_count» ≡ 0 = omega arith in
-      let c : length (take (p .count) (p .bands)) ≡ n = omega (arith, length-take (p .count) (p .bands)) in
+      let d : widthCheck (pageOf p .boxes) v ≡ Done.Accepted = simp (z, widthCheck, sym g, e) in
+      let c : n ≡ length (take (p .count) (p .bands)) = omega (arith, length-take (p .count) (p .bands)) in
+      let l : p .«box_count» ≡ length (take (p .«box_count») (p .boxes)) = omega (arith, length-take (p .«box_count») (p .boxes)) in
       let t : front (take (p .count) (p .bands)) (p .bands) ≡ p .bands = front-live (p .count) (p .bands) in
-      let u : front [] (p .boxes) ≡ p .boxes = front-nil (p .boxes) in
-      simp (sym f, z, widthCheck, sym g, e, setWidth, c, t, u)
+      let u : front (take (p .«box_count») (p .boxes)) (p .boxes) ≡ p .boxes = front-live (p .«box_count») (p .boxes) in
+      _∙_ {b = record { answer = Done.Accepted; page = stored (withWidth (pageOf p) v) p }} (cc) (simp (sym f, d))
 
 -- the page by value is the page of its three parts
 pub width-held : (p : FloatContext) (w : Float) {h : Head} {x : Widened} → h ≡ headOf p → widthOf (pageWith h (p .bands) (p .boxes)) w ≡ x → x ≡ widthOf p w

@@ -62,10 +62,14 @@ added c w s k AvailableSpace.MinContent = addedWidest c w
 added c w s k AvailableSpace.MaxContent = addedSums c w s k
 added c w s k (AvailableSpace.Definite a) = addedSums c w s k
 
--- `add_float`: refusals 1, 2, 3 and 6
+-- the codes and the width of a box: refusals 1, 2 and 3
+abbrev pub addCheck : Float → ℕ → ℕ → Check
+addCheck w side clear = checkOf (ltb side 2 && ltb clear 4) (size (plusZero w) ∷ [])
+
+-- `add_float`: these, then 6
 unfoldable pub addOf : FloatIntrinsicWidthCalculator → Float → ℕ → ℕ → Added
 addOf c w side clear =
-    elim (checkOf (ltb side 2 && ltb clear 4) (size (plusZero w) ∷ [])) [
+    elim (addCheck w side clear) [
       | Check.Passed ↦ added c (plusZero w) (sideOf side) (clearOf clear) (c .available)
       | Check.Refused n ↦ record { answer = Done.Refused n; calculator = c }
     ]

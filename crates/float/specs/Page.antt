@@ -1,6 +1,6 @@
 -- The page as lists, and how it lies in the struct. Definitions only.
 use Prim.Native.Nat.{ℕ}
-use mathlib.Core.List.{List, [], _++_}
+use mathlib.Core.List.{List, _++_}
 use lib.Ieee.{Float}
 use lib.ListN.{length, take, drop, replicate}
 use Rattle.f32_laws.specs.Numbers.{zero+}
@@ -33,19 +33,6 @@ pub record Page : Type 0 where
   pub ceiling : Bottom
   pub left : Kept
   pub right : Kept
-
--- a fresh page has width 0 and nothing else
-unfoldable pub fresh : Page
-fresh = record {
-  width = zero+;
-  bands = [];
-  boxes = [];
-  leftBottom = Bottom.None;
-  rightBottom = Bottom.None;
-  ceiling = Bottom.None;
-  left = record { first = 0; past = 0 };
-  right = record { first = 0; past = 0 };
-}
 
 -- what stands in a dead place of a fresh struct
 abbrev pub noBox : PlacedFloatedBox
@@ -85,7 +72,7 @@ stored q p = record {
   «right_past» = q .right .past;
 }
 
--- a fresh struct: every dead place is zero
+-- a fresh page has width 0 and nothing else; every dead place is zero
 unfoldable pub freshContext : FloatContext
 freshContext = record {
   width = zero+;
@@ -101,3 +88,7 @@ freshContext = record {
   «right_first» = 0;
   «right_past» = 0;
 }
+
+-- the page that it holds
+unfoldable pub fresh : Page
+fresh = pageOf freshContext

@@ -234,11 +234,12 @@ abbrev pub ifDone {ℓ} : {A : Type ℓ} → Done → A → A → A
 ifDone Done.Accepted new old = new
 ifDone (Done.Refused n) new old = old
 
+-- on pages
 unfoldable pub setWidth : Page → Float → Page
 setWidth p w = ifDone (widthCheck (p .boxes) (plusZero w)) (withWidth p (plusZero w)) p
 
+-- and on structs: a refusal hands back the very struct
 unfoldable pub widthOf : FloatContext → Float → Widened
-widthOf p w = record {
-  answer = widthCheck (pageOf p .boxes) (plusZero w);
-  page = ifDone (widthCheck (pageOf p .boxes) (plusZero w)) (stored (setWidth (pageOf p) w) p) p;
-}
+widthOf p w =
+    let d = widthCheck (pageOf p .boxes) (plusZero w) in
+    record { answer = d; page = ifDone d (stored (withWidth (pageOf p) (plusZero w)) p) p }

@@ -10,7 +10,7 @@ use Rattle.float.specs.declared.FloatContext.{FloatContext}
 use Rattle.float.specs.declared.PlaceAnswer.{PlaceAnswer}
 use Rattle.float.specs.Numbers.{plusZero}
 use Rattle.float.specs.Page.{Page, pageOf, front, stored}
-use Rattle.float.specs.Place.{Call, place, placedPage, placeOf, ifDone, widthCheck, setWidth, widthOf}
+use Rattle.float.specs.Place.{Call, place, placedPage, placeOf, ifDone, widthCheck, withWidth, widthOf}
 use Rattle.tape.specs.declared.record.Read.{Read}
 use Rattle.tape.specs.declared.record.Record.{Record}
 use Rattle.tape.specs.declared.step.Calculator.{Calculator}
@@ -47,7 +47,7 @@ module _ (p t : FloatContext) (e : pageOf p ≡ pageOf t) where
 
   width-same : (w : Float) → pageOf (widthOf p w .page) ≡ pageOf (widthOf t w .page)
   unfolding widthOf
-  width-same w = done-same (widthCheck (pageOf p .boxes) (plusZero w)) (setWidth (pageOf p) w) ∙ ap (λ (q : Page). pageOf (ifDone (widthCheck (q .boxes) (plusZero w)) (stored (setWidth q w) t) t)) e
+  width-same w = done-same (widthCheck (pageOf p .boxes) (plusZero w)) (withWidth (pageOf p) (plusZero w)) ∙ ap (λ (q : Page). pageOf (ifDone (widthCheck (q .boxes) (plusZero w)) (stored (withWidth q (plusZero w)) t) t)) e
 
 pub same-refl : (s : State) → SameState s s
 same-refl s = record { page = refl; calculator = refl }

@@ -1,12 +1,11 @@
 -- What a record does: its equations carried over to what is told, the refusals of an add with no calculator, the record of a last arm, and whether what was read is a question or a placement.
 use Prim.Native.Nat.{ℕ, _≤_}
-use mathlib.Core.Bool.{Bool, true, false, _&&_}
+use mathlib.Core.Bool.{Bool, true, false}
 use mathlib.Core.Path.{_≡_, refl, sym, ap, _∙_, subst, subst⁻¹}
 use mathlib.Core.List.{List, [], _∷_}
 use native.Mathlib.Omega.{arith}
 use denote.Enum.Declared.{tagOf}
 use types.Run.{OneOf, miss}
-use lib.Dec.{ltb}
 use lib.Ieee.{Float}
 use Rattle.float.specs.declared.AvailableSpace.{AvailableSpace}
 use Rattle.float.specs.declared.Done.{Done}
@@ -14,9 +13,7 @@ use Rattle.float.specs.declared.FloatIntrinsicWidthCalculator.{FloatIntrinsicWi
 use Rattle.float.specs.declared.Head.{Head}
 use Rattle.float.specs.declared.Refusal.{Refusal}
 use Rattle.float.specs.declared.refuse.Check.{Check}
-use Rattle.float.specs.Numbers.{size, plusZero}
-use Rattle.float.specs.Refuse.{checkOf}
-use Rattle.float.specs.Calculator.{added, addOf}
+use Rattle.float.specs.Calculator.{added, addCheck, addOf}
 use Rattle.float.specs.Head.{pageWith}
 use Rattle.float.specs.Place.{Call, placeOf}
 use Rattle.float.specs.declared.hold.Admission.{Admission}
@@ -40,13 +37,13 @@ givenUp Done.Accepted = Refusal.NoCalculator
 givenUp (Done.Refused n) = n
 
 module _ (c : FloatIntrinsicWidthCalculator) (w : Float) (side clear : ℕ) where
-  by-check : (x : Check) → checkOf (ltb side 2 && ltb clear 4) (size (plusZero w) ∷ []) ≡ x → c .available ≡ AvailableSpace.MinContent → givenUp (addOf c w side clear .answer) ≡ notAdded x
+  by-check : (x : Check) → addCheck w side clear ≡ x → c .available ≡ AvailableSpace.MinContent → givenUp (addOf c w side clear .answer) ≡ notAdded x
   unfolding addOf added
   by-check Check.Passed e m = rw (e, addOf, m, added)
   by-check (Check.Refused n) e m = rw (e, addOf)
 
-  pub not-added : {d : Done} → c .available ≡ AvailableSpace.MinContent → addOf c w side clear .answer ≡ d → givenUp d ≡ notAdded (checkOf (ltb side 2 && ltb clear 4) (size (plusZero w) ∷ []))
-  not-added m e = ap givenUp (sym e) ∙ by-check (checkOf (ltb side 2 && ltb clear 4) (size (plusZero w) ∷ [])) refl m
+  pub not-added : {d : Done} → c .available ≡ AvailableSpace.MinContent → addOf c w side clear .answer ≡ d → givenUp d ≡ notAdded (addCheck w side clear)
+  not-added m e = ap givenUp (sym e) ∙ by-check (addCheck w side clear) refl m
 
 -- what is told of the calculator, told of the state
 pub on-calculator : (s : State) {t : Told Calculator} {k : Calculator} {l m : List ℕ} {r : ℕ} → Tells t k l m r → Tells (onCalculator s t) (record { page = s .page; calculator = k }) l m r

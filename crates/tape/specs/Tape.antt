@@ -1,8 +1,8 @@
 -- The tape: what a record does, and the lines of a whole tape. Definitions only.
 use Prim.Native.Nat.{ℕ, zero, suc, _+_}
-use mathlib.Core.Bool.{true, false, _&&_, cond}
+use mathlib.Core.Bool.{true, false, cond}
 use mathlib.Core.List.{List, [], _∷_, _++_}
-use lib.Dec.{ltb, leb}
+use lib.Dec.{leb}
 use lib.Ieee.{Float}
 use lib.IntN.{ℤ, pos, negℤ}
 use lib.ListN.{length, drop}
@@ -13,12 +13,11 @@ use Rattle.float.specs.declared.Placed.{Placed}
 use Rattle.float.specs.declared.Refusal.{Refusal}
 use Rattle.float.specs.declared.Widened.{Widened}
 use Rattle.float.specs.declared.refuse.Check.{Check}
-use Rattle.float.specs.Numbers.{size, plusZero}
-use Rattle.float.specs.Refuse.{numberOf, checkOf}
+use Rattle.float.specs.Refuse.{numberOf}
 use Rattle.float.specs.Page.{pageOf, front, freshContext}
 use Rattle.float.specs.Place.{placeOf, widthOf}
 use Rattle.float.specs.Slot.{content, bfc}
-use Rattle.float.specs.Calculator.{calculatorOf, addOf, resultOf}
+use Rattle.float.specs.Calculator.{calculatorOf, addCheck, addOf, resultOf}
 use Rattle.tape.specs.declared.record.Mode.{Mode}
 use Rattle.tape.specs.declared.record.Read.{Read}
 use Rattle.tape.specs.declared.record.Record.{Record}
@@ -71,7 +70,7 @@ notAdded (Check.Refused n) = n
 
 unfoldable pub addTo : Calculator → Float → ℕ → ℕ → Told Calculator
 addTo (Calculator.One c) w side clear = addedTo (addOf c w side clear)
-addTo Calculator.None w side clear = told Calculator.None (refusedLine (notAdded (checkOf (ltb side 2 && ltb clear 4) (size (plusZero w) ∷ []))))
+addTo Calculator.None w side clear = told Calculator.None (refusedLine (notAdded (addCheck w side clear)))
 
 -- I width
 unfoldable pub resultLine : Calculator → List ℕ
