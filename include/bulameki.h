@@ -69,7 +69,7 @@ extern "C" {
 #endif
 
 /* This header and the archive are of one version; CHANGELOG.md says what each brought. */
-#define BULAMEKI_VERSION "0.1.0"
+#define BULAMEKI_VERSION "0.2.0"
 
 /* The deepest stack of a call in bytes, its return address counted: measured, as docs/SPEED.md says. */
 #define BULAMEKI_STACK 18872
