@@ -9,7 +9,7 @@ use borrow.Author.Tests.{le-leb, lt-leb}
 use mir.Syntax.{w64}
 use mir.Val.{toZ}
 use mir.ValLaws.{toZ-pos}
-use lib.IntN.{pos, negsuc}
+use lib.IntN.{ℤ, pos, negsuc}
 use lib.ListN.{length}
 use lib.Seq.{paste}
 use Rattle.float.specs.Page.{front}
@@ -38,20 +38,28 @@ module _ (t : List ℕ) (w : Bool) (a : List ℕ) {l₀ l : List ℕ} {r : ℕ} 
     text = front-more w [] l a a b r (line-fits p) (front-none w a) e ∙ ap (λ (x : List ℕ). cond w (front x a) a) (p .text ∙ sym (over t h));
   }
 
+-- what is to be shown of a run of the tape t in the room a: the number q is returned, and the room is then d
+abbrev pub Right : List ℕ → List ℕ → List ℕ → ℤ → Type 0
+Right t a d q = (q ≡ returned (linesOf t) a) × (d ≡ filled (linesOf t) a)
+
 module _ (t a : List ℕ) where
-  -- written into the room a, whose lines are known to fit
-  written : {d : List ℕ} {q : ℕ} → length (linesOf t) ≤ length a → Answered true t a d q → (toZ w64 q ≡ returned (linesOf t) a) × (d ≡ filled (linesOf t) a)
-  unfolding returned filled
-  written {d} {q} h k =
-      let e = le-leb (length (linesOf t)) (length a) h in
-      let f = k .few in
-      (simp e (toZ-pos w64 q (omega arith) ∙ ap pos (k .count)), simp e (k .text))
+  -- written into a room that takes the lines
+  module _ {d : List ℕ} {q : ℕ} (h : Roomy t a) (k : Answered true t a d q) where
+    pub fit : q ≤ length a
+    fit = let y = k .count in let z = k .few in ⊎-elim (λ x. omega arith) (λ x. omega arith) h
 
-  pub at-once : {d : List ℕ} {q : ℕ} → length t ≤ length a / 11 → Answered true t a d q → (toZ w64 q ≡ returned (linesOf t) a) × (d ≡ filled (linesOf t) a)
-  at-once h k = written (let x = k .count in let y = k .few in omega arith) k
+    pub told : Right t a d (toZ w64 q)
+    unfolding returned filled
+    told =
+        let y = k .count in
+        let z = k .few in
+        let f = fit in
+        let e = le-leb (length (linesOf t)) (length a) (omega arith) in
+        (simp e (toZ-pos w64 q (omega arith) ∙ ap pos (k .count)), simp e (k .text))
 
+  -- counted first
   module _ {b : List ℕ} {r : ℕ} (c : Answered false t a b r) where
-    pub short : length b < r → (negsuc 12 ≡ returned (linesOf t) a) × (b ≡ filled (linesOf t) a)
+    pub short : length b < r → Right t a b (negsuc 12)
     unfolding returned filled
     short h =
         let e = lt-leb (length (linesOf t)) (length a) (let x = ap length (c .text) in let y = c .count in omega arith) in
@@ -60,6 +68,5 @@ module _ (t a : List ℕ) where
     pub enough : r ≤ length b → Roomy t b
     enough h = inl (let x = c .count in omega arith)
 
-    pub counted : {d : List ℕ} {q : ℕ} → r ≤ length b → Answered true t b d q → (toZ w64 q ≡ returned (linesOf t) a) × (d ≡ filled (linesOf t) a)
-    counted {d} {q} h k =
-        written (let x = ap length (c .text) in let y = c .count in omega arith) (subst (λ (x : List ℕ). Answered true t x d q) (c .text) k)
+    pub counted : {d : List ℕ} {q : ℤ} → Right t b d q → Right t a d q
+    counted {d} {q} k = subst (λ (x : List ℕ). Right t x d q) (c .text) k

@@ -94,11 +94,19 @@ fn last_of(n: usize) -> usize
     if n == 0 { 0 } else { n - 1 }
 }
 
+// A line to its place in the answers. The tests of the room never fail where the tape holds still, and are proved to; one that changes
+// between its two runs may have longer lines than were counted, and then they keep them out of what lies after the room.
 fn put_line(answers: &mut [u8], to: usize, line: &[u8], len: usize, writing: bool)
     requires { ⌜ (writing ≡ true → to + len ≤ length (now answers)) × (len ≤ length (now line)) ⌝ }
     ensures { λ _. ⌜ now (answers .exit) ≡ cond writing (paste (now (answers .entry)) to (now (line .entry)) len) (now (answers .entry)) ⌝ }
 {
     if writing {
+        if answers.len() < to {
+            return;
+        }
+        if answers.len() - to < len {
+            return;
+        }
         let mut i = 0;
         while i < len {
             answers[to + i] = line[i];
