@@ -74,11 +74,11 @@ abbrev pub turn : List Segment → Ask → State → Turn
 turn l a (atStart s e y k) = startTurn l a s e y k
 turn l a (atEnd s e y k j) = endTurn l a s e y k j
 
--- the search with at most f moves given up; the fuel of `searchFrom` is never used up
+-- the search with at most f moves given up
 unfoldable pub search : ℕ → List Segment → Ask → State → Spot
 search zero l a st = elim (turn l a st) [ stop s ↦ s | again x ↦ spot 0 0 zero+ zero+ 0 ]
 search (suc f) l a st = elim (turn l a st) [ stop s ↦ s | again x ↦ search f l a x ]
 
--- from the band `first` on; the end begins at the start
+-- from the band `first` on; the end begins at the start. The fuel, two moves a band, is never used up: `fuel-enough` (proofs/Spot.antt)
 unfoldable pub searchFrom : List Segment → Ask → (first : ℕ) (y : Float) → Spot
 searchFrom l a first y = search (length l + length l) l a (atStart first first y 0)
