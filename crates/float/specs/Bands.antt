@@ -32,11 +32,11 @@ abbrev pub none : Segment
 none = record { start = nan; end = nan; left = nan; right = nan; «left_float» = false; «right_float» = false }
 
 -- a band with no float
-abbrev pub bare : Float → Float → Float → Float → Segment
+abbrev pub bare : (start end left right : Float) → Segment
 bare s e l r = record { start = s; end = e; left = l; right = r; «left_float» = false; «right_float» = false }
 
 -- the same band from s to e
-abbrev pub spanning : Segment → Float → Float → Segment
+abbrev pub spanning : Segment → (start end : Float) → Segment
 spanning b s e = record { start = s; end = e; left = b .left; right = b .right; «left_float» = b .«left_float»; «right_float» = b .«right_float» }
 
 -- a band with the inset v and a float on one side
@@ -51,7 +51,7 @@ splitAt (b ∷ bs) zero y = spanning b (b .start) y ∷ spanning b y (b .end) �
 splitAt (b ∷ bs) (suc i) y = b ∷ splitAt bs i y
 
 -- the bands from s to e marked
-unfoldable pub markAll : FloatDirection → Float → List Segment → ℕ → ℕ → List Segment
+unfoldable pub markAll : FloatDirection → (inset : Float) → List Segment → (start end : ℕ) → List Segment
 markAll d v [] s e = []
 markAll d v (b ∷ bs) zero zero = marked d v b ∷ bs
 markAll d v (b ∷ bs) zero (suc e) = marked d v b ∷ markAll d v bs zero e

@@ -36,14 +36,14 @@ zeroed Clear.Right s x = onSide s x zero+
 zeroed Clear.Both s x = zero+
 
 -- the sums l and r after the box, or refusal 6: a side's sum or the two together pass 131,072
-abbrev pub summed : FloatIntrinsicWidthCalculator → Float → Float → Float → Added
+abbrev pub summed : FloatIntrinsicWidthCalculator → (width left right : Float) → Added
 summed c w l r =
     cond (inReach l && inReach r && inReach (add binary32 l r))
     (record { answer = Done.Accepted; calculator = record { available = c .available; «left_sum» = l; «right_sum» = r; total = larger (c .total) (add binary32 l r); widest = larger (c .widest) w } })
     (record { answer = Done.Refused Refusal.TooFar; calculator = c })
 
 -- the sum x of the side t with the width w of a box of the side s
-abbrev pub plusOn : FloatDirection → FloatDirection → Float → Float → Float
+abbrev pub plusOn : (box side : FloatDirection) (sum width : Float) → Float
 plusOn s t x w = cond (sameSide s t) (add binary32 x w) x
 
 -- the cleared sides' sums are zeroed, then the width is added
@@ -63,11 +63,11 @@ added c w s k AvailableSpace.MaxContent = addedSums c w s k
 added c w s k (AvailableSpace.Definite a) = addedSums c w s k
 
 -- the codes and the width of a box: refusals 1, 2 and 3
-abbrev pub addCheck : Float → ℕ → ℕ → Check
+abbrev pub addCheck : (width : Float) (side clear : ℕ) → Check
 addCheck w side clear = checkOf (ltb side 2 && ltb clear 4) (size (plusZero w) ∷ [])
 
 -- `add_float`: these, then 6
-unfoldable pub addOf : FloatIntrinsicWidthCalculator → Float → ℕ → ℕ → Added
+unfoldable pub addOf : FloatIntrinsicWidthCalculator → (width : Float) (side clear : ℕ) → Added
 addOf c w side clear =
     elim (addCheck w side clear) [
       | Check.Passed ↦ added c (plusZero w) (sideOf side) (clearOf clear) (c .available)
@@ -75,7 +75,7 @@ addOf c w side clear =
     ]
 
 -- `result`: definite answers the smaller of total and available, but never less than the widest
-unfoldable pub resultAt : Float → Float → AvailableSpace → Float
+unfoldable pub resultAt : (total widest : Float) → AvailableSpace → Float
 resultAt total widest AvailableSpace.MinContent = total
 resultAt total widest AvailableSpace.MaxContent = total
 resultAt total widest (AvailableSpace.Definite a) = larger (smaller total a) widest

@@ -1,4 +1,4 @@
--- A page in three parts: its head, its bands and its boxes. How a holder that keeps the arrays where they lie has a page; no promise to a reader names it. Definitions only.
+-- A page in three parts, its head, its bands and its boxes, as a holder that keeps the arrays where they lie has it. No promise to a reader names them. Definitions only.
 use mathlib.Core.List.{List}
 use Rattle.float.specs.declared.FloatContext.{FloatContext}
 use Rattle.float.specs.declared.Head.{Head}

@@ -87,7 +87,7 @@ pub record Made : Type 0 where
   pub y : Float
 
 -- an added band of containing insets, unmarked
-abbrev pub seed : Ask → Float → Float → Segment
+abbrev pub seed : Ask → (start end : Float) → Segment
 seed a s e = bare s e (onSide (a .side) (a .«cb_lead») (a .«cb_trail»)) (onSide (a .side) (a .«cb_trail») (a .«cb_lead»))
 
 -- the end of no band counts as minus infinity
@@ -95,10 +95,10 @@ abbrev pub endOf : List Segment → Float
 endOf l = lastEnd (inf true) l
 
 -- rule 6: below all; z is the last end
-abbrev pub gapped : List Segment → Float → Float → List Segment
+abbrev pub gapped : List Segment → (z y : Float) → List Segment
 gapped l z y = cond (lt z y) (l ++ bare z y zero+ zero+ ∷ []) l
 
-abbrev pub belowAll : Ask → List Segment → Float → Float → Made
+abbrev pub belowAll : Ask → List Segment → (z y : Float) → Made
 belowAll a l z y = record {
   bands = gapped l z y ++ seed a (larger z y) (add binary32 (larger z y) (a .height)) ∷ [];
   start = length (gapped l z y);
@@ -107,7 +107,7 @@ belowAll a l z y = record {
 }
 
 -- rule 7: the end walked back while it is above the start and the bottom is at or before its start
-unfoldable pub walked : List Segment → ℕ → Float → ℕ → ℕ
+unfoldable pub walked : List Segment → (start : ℕ) (bottom : Float) (end : ℕ) → ℕ
 walked l s bottom zero = zero
 walked l s bottom (suc e) = elim (ltb s (suc e) && le bottom (getD l (suc e) none .start)) [ true ↦ walked l s bottom e | false ↦ suc e ]
 
@@ -115,17 +115,17 @@ abbrev pub inside : Segment → Float → Bool
 inside b y = lt (b .start) y && lt y (b .end)
 
 -- rule 7: the end band split where the bottom is strictly inside; the end stays the upper part
-abbrev pub ended : List Segment → ℕ → ℕ → Float → Float → Made
+abbrev pub ended : List Segment → (start end : ℕ) (y bottom : Float) → Made
 ended l s e y bottom = cond (inside (getD l e none) bottom) (record { bands = splitAt l e bottom; start = s; end = e; y = y }) (record { bands = l; start = s; end = e; y = y })
 
 -- rule 7: running past the last band
-abbrev pub pastLast : Ask → List Segment → ℕ → Float → Float → Made
+abbrev pub pastLast : Ask → List Segment → (start : ℕ) (y bottom : Float) → Made
 pastLast a l s y bottom =
     cond (lt (endOf l) bottom)
     (record { bands = l ++ seed a (endOf l) bottom ∷ []; start = s; end = length l; y = y })
     (record { bands = l; start = s; end = length l - 1; y = y })
 
-abbrev pub startedAt : Ask → List Segment → ℕ → ℕ → Float → Made
+abbrev pub startedAt : Ask → List Segment → (start end : ℕ) (y : Float) → Made
 startedAt a l s e y = cond (ltb e (length l)) (ended l s (walked l s (add binary32 y (a .height)) e) y (add binary32 y (a .height))) (pastLast a l s y (add binary32 y (a .height)))
 
 -- rules 6 and 7: the start band is split at y unless y is its start; start is then the lower part, and the end moves along
@@ -138,10 +138,10 @@ make a l p =
     (belowAll a l (endOf l) (p .y))
 
 -- rule 8: the bands from start to end get placed inset + width and the mark; the side's kept numbers are raised to start and end + 1
-abbrev pub keep : Kept → ℕ → ℕ → Kept
+abbrev pub keep : Kept → (start end : ℕ) → Kept
 keep k s e = record { first = max (k .first) s; past = max (k .past) (suc e) }
 
-abbrev pub recorded : Page → Ask → Float → Made → Page
+abbrev pub recorded : Page → Ask → (inset : Float) → Made → Page
 recorded p a i m = record {
   width = p .width;
   bands = markAll (a .side) (add binary32 i (a .width)) (m .bands) (m .start) (m .end);
@@ -154,10 +154,10 @@ recorded p a i m = record {
 }
 
 -- what every accepted box does, one of no height too: its side's bottom, the ceiling, and the box itself
-abbrev pub boxOf : Ask → Float → Float → PlacedFloatedBox
+abbrev pub boxOf : Ask → (inset y : Float) → PlacedFloatedBox
 boxOf a i y = record { width = a .width; height = a .height; «x_inset» = i; y = y; side = a .side }
 
-abbrev pub counted : Page → Ask → Float → Float → Page
+abbrev pub counted : Page → Ask → (inset y : Float) → Page
 counted p a i y = record {
   width = p .width;
   bands = p .bands;
@@ -170,17 +170,17 @@ counted p a i y = record {
 }
 
 -- a left box answers its inset as x, a right box page width - inset - width
-abbrev pub xOf : Ask → Float → Float
+abbrev pub xOf : Ask → (inset : Float) → Float
 xOf a i = onSide (a .side) i (sub binary32 (sub binary32 (a .page) i) (a .width))
 
 abbrev pub refuse : Page → Refusal → Result
 refuse p n = record { answer = PlaceAnswer.Refused n; page = p }
 
-abbrev pub accept : Page → Ask → Spot → Float → Result
+abbrev pub accept : Page → Ask → Spot → (y : Float) → Result
 accept p a s y = record { answer = PlaceAnswer.At (xOf a (s .inset)) y (s .steps); page = counted p a (s .inset) y }
 
 -- refusal 6 is given where this fails
-abbrev pub near : Ask → Float → Float → Bool
+abbrev pub near : Ask → (inset y : Float) → Bool
 near a i y = inReach (add binary32 y (a .height)) && inReach (add binary32 i (a .width))
 
 -- a box with a height: refusals 6 and 7, then rule 8

@@ -2,4 +2,5 @@ pub mod Bytes
 pub mod Record
 pub mod Lines
 pub mod Tape
+-- for the contracts of inner functions alone: no promise to a reader names them
 pub mod Put

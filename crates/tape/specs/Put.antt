@@ -1,4 +1,4 @@
--- Bytes put into a line where it lies, for the contracts of inner functions. Definitions only.
+-- Bytes put into a line where it lies, and what a record does to a page in three parts. No promise to a reader names them. Definitions only.
 use Prim.Native.Nat.{ℕ, suc, _+_, _-_, _*_, min, _≤_, _<_}
 use mathlib.Core.Logic.{_⊎_}
 use mathlib.Core.Path.{_≡_}

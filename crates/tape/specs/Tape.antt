@@ -88,7 +88,7 @@ stepOf s (Record.Start mode) = onCalculator s (started (s .calculator) (startOf 
 stepOf s (Record.Add w side clear) = onCalculator s (addTo (s .calculator) w side clear)
 stepOf s Record.Result = told s (resultLine (s .calculator))
 
--- the lines of the part of a tape that begins at the offset i; each record takes a byte at least, so the fuel lasts
+-- the lines of the part of a tape that begins at the offset i; each record takes a byte at least, so the fuel lasts: `fuel-lasts` of the records (crate tied, proofs/Records.antt)
 unfoldable pub run : ℕ → ℕ → List ℕ → State → List ℕ
 run zero i t s = []
 run (suc f) i [] s = []
