@@ -17,13 +17,13 @@ n k = ofInt binary32 (pos k)
 abbrev pub box : ℕ → Float → Float → Call
 box side width height = record { side = side; clear = 0; width = width; height = height; minY = n 0; left = n 0; right = n 0 }
 
--- a fresh page of a width
-abbrev pub wideOf : Float → FloatContext
-wideOf w = widthOf freshContext w .page
+-- a fresh page 320 wide
+abbrev pub wide : FloatContext
+wide = widthOf freshContext (n 320) .page
 
 -- the page after each call is the one on which the next is made
 abbrev pub first : Placed
-first = placeOf (wideOf (n 320)) (box 0 (n 100) (n 50))
+first = placeOf wide (box 0 (n 100) (n 50))
 
 abbrev pub second : Placed
 second = placeOf (first .page) (box 1 (n 80) (n 30))
