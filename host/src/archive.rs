@@ -120,6 +120,15 @@ pub mod probe {
                 inset_left: f32,
                 inset_right: f32,
             ) -> u8;
+            pub fn probe_kept(
+                count: usize,
+                which: usize,
+                wide: f32,
+                side: u8,
+                width: f32,
+                height: f32,
+                step: f32,
+            ) -> f32;
         }
     }
 
@@ -147,5 +156,8 @@ pub mod probe {
     }
     pub fn fits(side: u8, width: f32, page: f32, band: [f32; 2], containing: [f32; 2]) -> u8 {
         unsafe { raw::probe_fits(side, width, page, band[0], band[1], containing[0], containing[1]) }
+    }
+    pub fn kept(count: usize, which: usize, wide: f32, side: u8, size: [f32; 2], step: f32) -> f32 {
+        unsafe { raw::probe_kept(count, which, wide, side, size[0], size[1], step) }
     }
 }

@@ -1,17 +1,11 @@
 //! Counts what the rows' runs do on both sides: the instructions, by valgrind's callgrind or by count.c, a plugin of qemu-user; and the
 //! bytes stored, by the plugin alone. Either way the bench starts itself anew, as `bench --counted`.
 
-use crate::archive::{self, Runner};
-use crate::job;
+use crate::archive::Runner;
 use crate::rows::{self, Row, Run};
 use std::arch::asm;
 use std::path::Path;
 use std::process::{Command, Stdio};
-
-/// Archive and crate.
-pub fn sides() -> [Runner; 2] {
-    [archive::panel().expect("linked"), job::run]
-}
 
 /// Whether x86-host.sh runs this on a processor that is none, so that times say nothing.
 pub fn emulated() -> bool {
@@ -21,21 +15,21 @@ pub fn emulated() -> bool {
 /// What is counted. callgrind knows it by its name, the plugin by the marks within, which do nothing.
 #[no_mangle]
 #[inline(never)]
-extern "C" fn bench_counted(side: usize, runs: &Vec<Run>, room: &mut Vec<u8>) {
+extern "C" fn bench_counted(run: &Runner, runs: &Vec<Run>, room: &mut Vec<u8>) {
     // SAFETY: a no-operation touches nothing, whatever its operand.
     unsafe { asm!("nop dword ptr [rax + 0x42554C00]") };
-    rows::all(sides()[side], runs, room);
+    rows::all(*run, runs, room);
     unsafe { asm!("nop dword ptr [rax + 0x42554C01]") };
 }
 
 /// Runs every row once on each side, with and without its records, after a first time that is not counted.
 pub fn counted() {
     for row in rows::rows() {
-        for side in [0, 1] {
+        for run in row.sides {
             for runs in [&row.with, &row.without] {
                 let mut room = rows::room(runs);
-                rows::all(sides()[side], runs, &mut room);
-                bench_counted(side, runs, &mut room);
+                rows::all(run, runs, &mut room);
+                bench_counted(&run, runs, &mut room);
             }
         }
     }

@@ -22,6 +22,8 @@ pub mod driver;
 pub mod job;
 #[cfg(has_taffy)]
 pub mod judge;
+#[cfg(all(has_taffy, has_probe))]
+pub mod kept;
 pub mod random;
 #[cfg(has_taffy)]
 pub mod rows;

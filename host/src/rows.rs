@@ -4,7 +4,10 @@ use crate::answers;
 use crate::archive::{self, Runner};
 use crate::call::{BANDS, REACH};
 use crate::grouped;
+use crate::job;
 use crate::judge::{self, Answer, Judge};
+#[cfg(has_probe)]
+use crate::kept;
 use crate::random::Random;
 use crate::tape::{bytes, Record, LONGEST, NONE};
 use std::hint::black_box;
@@ -38,8 +41,15 @@ pub struct Row {
     pub name: String,
     /// How many times more the thing stands on `with`; 1 where whole tapes are measured, and `without` is none.
     pub records: usize,
+    /// Archive and crate.
+    pub sides: [Runner; 2],
     pub with: Vec<Run>,
     pub without: Vec<Run>,
+}
+
+/// The whole job by the archive, and by the crate.
+fn whole_job() -> [Runner; 2] {
+    [archive::panel().expect("linked"), job::run]
 }
 
 /// A page in the manner of a fault page: pictures on both sides, further down as the text goes on, their edges on a grid of 4.
@@ -129,6 +139,7 @@ fn last_quarter(name: &str, boxes: usize, page: impl Fn(usize, usize) -> Vec<Rec
     Row {
         name: format!("{name}, page of {boxes}"),
         records: pages * (boxes - kept),
+        sides: whole_job(),
         with: vec![Run::sure(tape(boxes))],
         without: vec![Run::sure(tape(kept))],
     }
@@ -149,7 +160,7 @@ fn more(
     }
     let records = with.len() - without.len();
     let [with, without] = [with, without].map(|records| vec![Run::sure(bytes(&records))]);
-    Row { name: format!("{name}, page of {boxes}"), records, with, without }
+    Row { name: format!("{name}, page of {boxes}"), records, sides: whole_job(), with, without }
 }
 
 fn slots(name: &str, boxes: usize, bfc: bool) -> Row {
@@ -182,11 +193,11 @@ fn refusals() -> [Row; 3] {
 
 fn repeated(name: &str, first: &[Record], again: &[Record]) -> Row {
     let tape = |times: usize| vec![Run::sure(bytes(&[first, &again.repeat(times)].concat()))];
-    Row { name: name.into(), records: RECORDS, with: tape(2 * RECORDS), without: tape(RECORDS) }
+    Row { name: name.into(), records: RECORDS, sides: whole_job(), with: tape(2 * RECORDS), without: tape(RECORDS) }
 }
 
 fn whole(name: String, runs: Vec<Run>) -> Row {
-    Row { name: format!("whole job: {name}"), records: 1, with: runs, without: vec![] }
+    Row { name: format!("whole job: {name}"), records: 1, sides: whole_job(), with: runs, without: vec![] }
 }
 
 /// Pages of 64 with questions, as many as a tape takes.
@@ -202,10 +213,26 @@ fn longest() -> Vec<u8> {
     tape
 }
 
+/// The last quarter of the boxes of a page that is kept with no tape.
+#[cfg(has_probe)]
+fn kept(boxes: usize) -> Row {
+    let run = |boxes: usize| vec![Run { tape: vec![boxes as u8], room: 0 }];
+    let before = boxes * 3 / 4;
+    Row {
+        name: format!("a placement on a page kept by value, page of {boxes}"),
+        records: boxes - before,
+        sides: [kept::by_archive, kept::by_crate],
+        with: run(boxes),
+        without: run(before),
+    }
+}
+
 pub fn rows() -> Vec<Row> {
     let full = SIZES[3];
     let mut rows: Vec<Row> = SIZES.iter().map(|boxes| last_quarter("a placement", *boxes, page)).collect();
     rows.push(last_quarter("a placement and two questions", full, asked_between));
+    #[cfg(has_probe)]
+    rows.push(kept(full));
     rows.extend(SIZES.iter().map(|boxes| slots("a content question", *boxes, false)));
     rows.extend(SIZES.iter().map(|boxes| slots("a BFC question", *boxes, true)));
     rows.extend(refusals());

@@ -2,7 +2,6 @@
 use Prim.Native.Nat.{ℕ}
 use lib.Ieee.{Float, binary32, ofInt}
 use lib.IntN.{pos}
-use Rattle.f32_laws.specs.Numbers.{zero+}
 use Rattle.float.specs.declared.FloatContext.{FloatContext}
 use Rattle.float.specs.declared.Placed.{Placed}
 use Rattle.float.specs.Page.{freshContext}

@@ -1,2 +1,3 @@
 -- The definitions.
 pub mod Truth
+pub mod Kept

@@ -1,8 +1,10 @@
 // The leaves for tests: thin exports of the float crate's functions on numbers, 1 for true and 0 for false. Each takes any f32, a NaN too.
 ghost use mathlib.Core.Path.{_≡_};
 ghost use Rattle.probe.specs.Truth.{bit, fitsAt};
+ghost use Rattle.probe.specs.Kept.{pageAfter, boxAt};
 ghost use Rattle.f32_laws.specs.Numbers.{larger, smaller, «zero+»};
 ghost use Rattle.float.specs.Numbers.{most, least, plusZero, finite, within, inReach};
+use float::FloatContext;
 use float::FloatDirection;
 use float::fit::Ask;
 
@@ -99,4 +101,42 @@ pub extern "C" fn probe_fits(
         }
         _ => 2,
     }
+}
+
+// How far down the box `which` of a page stands, 0 if there is none.
+fn top_of(page: FloatContext, which: usize) -> f32
+    ensures { λ r. ⌜ r ≡ (boxAt page which) .y ⌝ }
+{
+    if which < 64 {
+        return page.boxes[which].y;
+    }
+    0.0
+}
+
+// A page that is kept over some placements of a box, each `step` further down. What it gives is read from the page at the end.
+#[no_mangle]
+pub extern "C" fn probe_kept(
+    count: usize,
+    which: usize,
+    wide: f32,
+    side: u8,
+    width: f32,
+    height: f32,
+    step: f32,
+) -> f32
+    ensures { λ r. ⌜ r ≡ (boxAt (pageAfter wide side width height step count) which) .y ⌝ }
+{
+    let fresh = FloatContext::new();
+    let widened = fresh.set_width(wide);
+    let mut page = widened.page;
+    let mut top: f32 = 0.0;
+    let mut i: usize = 0;
+    while i < count {
+        let placed = page.place_floated_box(width, height, top, 0.0, 0.0, side, 0);
+        let after = placed.page;
+        page = after;
+        top = top + step;
+        i += 1;
+    }
+    top_of(page, which)
 }

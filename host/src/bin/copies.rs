@@ -4,7 +4,7 @@
 
 #[cfg(all(has_taffy, has_panel))]
 mod run {
-    use host::archive;
+    use host::archive::Runner;
     use host::call::Call;
     use host::float::FloatContext;
     use host::grouped;
@@ -49,8 +49,7 @@ mod run {
     static ALLOCATOR: Counting = Counting;
 
     /// By size the copies that the archive makes in some runs.
-    fn counted(runs: &[Run]) -> Vec<u64> {
-        let run = archive::panel().expect("linked");
+    fn counted(run: Runner, runs: &[Run]) -> Vec<u64> {
         let mut room = rows::room(runs);
         COPIES.iter().for_each(|count| count.store(0, Relaxed));
         rows::all(run, runs, &mut room);
@@ -61,7 +60,7 @@ mod run {
         println!("| | copies, length × number | bytes |");
         println!("|---|---|--:|");
         for row in rows::rows().iter().filter(|row| !row.without.is_empty()) {
-            let (with, without) = (counted(&row.with), counted(&row.without));
+            let (with, without) = (counted(row.sides[0], &row.with), counted(row.sides[0], &row.without));
             let number = |length: usize| (with[length] as f64 - without[length] as f64) / row.records as f64;
             // what is shorter is the line that the record prints
             let seen: Vec<usize> = (64..SIZED).rev().filter(|length| number(*length) != 0.0).collect();

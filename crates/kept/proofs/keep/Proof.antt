@@ -1,7 +1,7 @@
 -- `kept::keep` meets its contract: a walk of its MIR, by hand. The page lies in a local. For each call its memory is lent for a lifetime that is made for the call; the call returns, the lifetime ends, and the memory comes back with the page that `place_in`'s contract says.
 -- `lent` is that, once, over any context: from the page's cell and what it owns to the same after the call, beside the answer.
 -- Assumes nothing.
-use mathlib.Core.Path.{_≡_, refl, _∙_, ap}
+use mathlib.Core.Path.{_≡_, refl, _∙_}
 use Prim.Native.Nat.{ℕ, _<_, _^_}
 use native.Mathlib.Omega.{arith}
 use mathlib.Core.List.{[], _∷_, List}
@@ -24,10 +24,10 @@ use contract.Lifetimes.{Lfts}
 use contract.Running.{givenOf, tables, tablesOf}
 use types.Kit.{Given, Item, ‵, raw, _⊛_, some, later, _$_, _∵_, !, Seq, Post as After, runs, lands, qed, by, move, keep as keeps, drop, use0, use1, use2, use3, split, join, group, pick, fsplit, fjoin, suffices, frame, await, done}
 use types.Tokens.{lft-new, lft-end}
-use types.Run.{Opd, Opds, look, init, store, forget, stop, from, load, lit, float-lit, addr, of-opd, assigns, and-then, no-more, land, returns, enter, alloc1, alloc0, params1, pass0, free1, free0}
+use types.Run.{Opd, look, init, store, forget, stop, from, load, lit, float-lit, addr, of-opd, assigns, and-then, no-more, land, returns, enter, alloc1, alloc0, params1, pass0, free1, free0}
 use types.SemTy.{Body as Held}
 use sound.WpLaws.{FmC, fmOf, WpFn-mono}
-use denote.RattleType.{RattleType, Denots, Valss, flat, owns}
+use denote.RattleType.{RattleType, Denots, Valss, owns}
 use denote.Laws.{Is, Ises, Are, Spells, valss, Makes, shows, owns-make}
 use denote.Memory.{mem, lone}
 use denote.Floats.{float-vals, float-makes, is-true}
@@ -47,7 +47,6 @@ use denote.Triple.Walked.{says, walkOf, Walks, ends-at, walked, walk-meets}
 use denote.Triple.Clauses.{Ended, Lasts, ensured, lasts}
 use borrow.Table.OneValue.{part-in, part-out}
 use Rattle.float.specs.declared.FloatContext.{FloatContext}
-use Rattle.float.specs.declared.Placed.{Placed}
 use Rattle.float.specs.declared.PlaceAnswer.{PlaceAnswer}
 use Rattle.float.specs.Page.{freshContext}
 use Rattle.float.specs.Place.{Call, placeOf, widthOf}
