@@ -82,9 +82,9 @@ fn placed(x: f32, y: f32, steps: usize) -> String {
     line("P", &[x, y], &format!(" {steps}"))
 }
 
-/// A record of a kind with one number in its place, on a page 65,536 wide with a calculator of both sums.
-fn with_number(kind: usize, place: usize, number: f32) -> Vec<u8> {
-    let mut tape = bytes(&[Width(MOST), calc(2)]);
+/// A record of a kind with one number in its place, behind others.
+fn with_number(before: &[Record], kind: usize, place: usize, number: f32) -> Vec<u8> {
+    let mut tape = bytes(before);
     tape.push(kind as u8);
     for (here, field) in BODIES[kind].iter().enumerate() {
         match field {
@@ -97,21 +97,34 @@ fn with_number(kind: usize, place: usize, number: f32) -> Vec<u8> {
     tape
 }
 
-/// Limits of every number of every record: 0 or -65,536 below, 65,536 above, and what is no number.
+/// Limits of every number of every record: 0 or -65,536 below, 65,536 above, and what is no number. First where the record is
+/// answered, then where another refusal holds too: with a box and no calculator, and with 64 boxes.
 fn limits_of_numbers(cases: &mut Cases) {
-    for (kind, letter) in [(1, "W"), (2, "P*"), (3, "C*"), (4, "B*"), (5, "S"), (6, "A")] {
+    let ready = [Width(MOST), calc(2)];
+    let full = [plain(LEFT, 0.0, 0.0); 64];
+    for (before, kind, letter) in [
+        (&ready[..], 1, "W"),
+        (&ready, 2, "P*"),
+        (&ready, 3, "C*"),
+        (&ready, 4, "B*"),
+        (&ready, 5, "S"),
+        (&ready, 6, "A"),
+        (&full[..1], 1, "R 4"),
+        (&full[..1], 6, "R 8"),
+        (&full, 2, "R 5"),
+    ] {
         for (place, field) in BODIES[kind].iter().enumerate().filter(|(_, field)| field.is_number()) {
             let least = if *field == Field::Offset { -MOST } else { 0.0 };
-            let allowed = [least, above(least), below(0.0).max(least), -0.0, 0.0, above(0.0), below(MOST), MOST];
-            for number in allowed {
-                cases.ends_so(&with_number(kind, place, number), &[letter]);
+            let mut ends = |number: f32, told: &str| cases.ends_so(&with_number(before, kind, place, number), &[told]);
+            for number in [least, above(least), below(0.0).max(least), -0.0, 0.0, above(0.0), below(MOST), MOST] {
+                ends(number, letter);
             }
-            let limits = [below(least), -1.0, above(MOST), f32::MAX, f32::MIN];
-            for number in limits.into_iter().filter(|number| !(least..=MOST).contains(number)) {
-                cases.ends_so(&with_number(kind, place, number), &["R 3"]);
+            let outside = [below(least), -1.0, above(MOST), f32::MAX, f32::MIN];
+            for number in outside.into_iter().filter(|number| !(least..=MOST).contains(number)) {
+                ends(number, "R 3");
             }
             for number in [f32::INFINITY, f32::NEG_INFINITY, f32::NAN, -f32::NAN, f32::from_bits(0x7F80_0001)] {
-                cases.ends_so(&with_number(kind, place, number), &["R 2"]);
+                ends(number, "R 2");
             }
         }
     }
