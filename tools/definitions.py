@@ -32,7 +32,7 @@ def types_of(text):
     """What a source file declares, without its functions."""
     items = re.findall(r"^(?:pub )?(?:struct|enum) .*?^}\n", text, re.M | re.S)
     said = "".join(items)
-    uses = [line for line in re.findall(r"^use .*;\n", text, re.M)
+    uses = [line for line in re.findall(r"^(?:pub )?use .*;\n", text, re.M)
             if re.search(rf"\b{re.findall(r'[A-Za-z_]+', line)[-1]}\b", said)]
     return "// Types alone.\n" + "".join(re.findall(r"^(?:pub )?mod \w+;\n", text, re.M) + uses + items)
 
