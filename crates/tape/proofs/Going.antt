@@ -17,7 +17,7 @@ use Rattle.float.specs.Page.{front}
 use Rattle.tape.specs.declared.step.Calculator.{Calculator}
 use Rattle.tape.specs.declared.step.State.{State}
 use Rattle.tape.specs.Put.{Turned, Answered, Roomy, freshHead, stateOf}
-use Rattle.tape.specs.Tape.{freshState, run, linesOf}
+use Rattle.tape.specs.Tape.{run, linesOf}
 use Rattle.tape.proofs.Held.{fresh-same}
 use Rattle.tape.proofs.Running.{run-none}
 use Rattle.tape.proofs.Same.{run-same}

@@ -1,5 +1,5 @@
 -- The room for the lines: a tape that is too long, lines that fit, and lines that do not.
-use Prim.Native.Nat.{ℕ, _+_, _/_, _≤_, _<_}
+use Prim.Native.Nat.{ℕ, _+_, _≤_, _<_}
 use mathlib.Core.Bool.{Bool, true, false, cond}
 use mathlib.Core.Logic.{⊎-elim, inl}
 use mathlib.Core.Path.{_≡_, sym, ap, _∙_, subst}

@@ -13,7 +13,6 @@ use Rattle.float.specs.Page.{Page, pageOf, front, stored}
 use Rattle.float.specs.Place.{Call, place, placedPage, placeOf, ifDone, widthCheck, withWidth, widthOf}
 use Rattle.tape.specs.declared.record.Read.{Read}
 use Rattle.tape.specs.declared.record.Record.{Record}
-use Rattle.tape.specs.declared.step.Calculator.{Calculator}
 use Rattle.tape.specs.declared.step.State.{State}
 use Rattle.tape.specs.Bytes.{decimal, row}
 use Rattle.tape.specs.Put.{SameState}

@@ -10,6 +10,9 @@ ghost use mathlib.Core.Path.{_≡_};
 ghost use Rattle.tape.specs.Put.{Roomy};
 ghost use Rattle.tape.specs.Tape.{linesOf, returned, filled};
 
+// What is returned where the room is short: minus the number of the refusal.
+const NO_ROOM: i64 = -13;
+
 // The lines into a room that takes them. The test never fails where the tape holds still: one that changes during the call may count more.
 fn written(tape: &[u8], answers: &mut [u8]) -> i64
     requires { ⌜ Roomy (now tape) (now answers) ⌝ }
@@ -17,7 +20,7 @@ fn written(tape: &[u8], answers: &mut [u8]) -> i64
 {
     let count = lines(tape, answers, true);
     if answers.len() < count {
-        return -13;
+        return NO_ROOM;
     }
     count as i64
 }
@@ -32,7 +35,7 @@ pub fn run_tape(tape: &[u8], answers: &mut [u8]) -> i64
     }
     let need = lines(tape, answers, false);
     if answers.len() < need {
-        return -13;
+        return NO_ROOM;
     }
     written(tape, answers)
 }

@@ -48,7 +48,7 @@ pub enum Calculator {
     One(FloatIntrinsicWidthCalculator),
 }
 
-// What a run keeps between two records.
+// What a run keeps between two records, as the definitions have it: the run itself holds the page in its parts.
 pub struct State {
     pub page: FloatContext,
     pub calculator: Calculator,

@@ -8,7 +8,7 @@ use borrow.Author.Tests.{not-true, not-false}
 use lib.ListN.{length, take, drop, getD, length-take, length-drop, length-replicate, length-set}
 use Rattle.float.specs.Bands.{none}
 use Rattle.float.specs.Head.{pageWith}
-use Rattle.float.specs.Hold.{WalkedBack, Enters}
+use Rattle.float.specs.Hold.{Enters}
 use Rattle.float.specs.Place.{placeOf}
 use Rattle.float.specs.Quest.{Found}
 use Rattle.float.proofs.Holding.{looked-order, Walking, walking-first, walking-in, walking-next, walking-end, walking-stop, Writing, writing-first, writing-next, writing-end}
