@@ -15,11 +15,13 @@ ghost use Rattle.tape.specs.Bytes.{digit as digitOf, digits, float, deci
 ghost use Rattle.tape.specs.Lines.{refusedLine, doneLine, placeLine, band as bandText, contentLine, bfcLine};
 ghost use Rattle.tape.specs.Put.{Put};
 
+const DIGITS: [u8; 16] = *b"0123456789ABCDEF";
+
 fn digit(d: usize) -> u8
     requires { ⌜ d < 16 ⌝ }
     ensures { λ r. ⌜ r ≡ digitOf d ⌝ }
 {
-    if d < 10 { 48 + d as u8 } else { 55 + d as u8 }
+    DIGITS[d]
 }
 
 fn put(line: &mut [u8], at: usize, b: u8) -> usize

@@ -1,27 +1,30 @@
--- `tape::line::digit` meets its contract: the test decides both.
-use borrow.Author.Tests.{lt-ltb, le-ltb}
+-- `tape::line::digit` meets its contract: the table is the row of the first sixteen digits.
+use Prim.Native.Nat.{ℕ, zero, suc, _+_, _<_}
+use mathlib.Core.List.{List, [], _∷_}
+use mathlib.Core.Path.{_≡_, sym, ap, _∙_}
+use native.Mathlib.Nat.{add-zero, zero-add, add-suc, suc-add}
+use native.Mathlib.Omega.{arith}
+use lib.ListN.{getD}
 use borrow.Author.Needs.{needs}
+use Rattle.tape.specs.Bytes.{digit}
 use Rattle.tape.proofs.line.digit.Statement.{statement}
 use Rattle.tape.proofs.line.digit.Tie as tie
 
-cast-result : tie.Need-cast-result
-cast-result c = search needs
+-- n digits, from i on
+abbrev from : ℕ → ℕ → List ℕ
+from i zero = []
+from i (suc n) = digit i ∷ from (suc i) n
 
-add-result : tie.Need-add-result
-add-result c = search needs
+at : (n i k : ℕ) → k < n → getD (from i n) k 0 ≡ digit (i + k)
+at zero i k h = absurd (omega arith)
+at (suc n) i zero h = ap digit (sym (add-zero i))
+at (suc n) i (suc k) h = at n (suc i) k (omega arith) ∙ ap digit (suc-add i k ∙ sym (add-suc i k))
 
-cast-result-2 : tie.Need-cast-result-2
-cast-result-2 c = search needs
-
-add-result-2 : tie.Need-add-result-2
-add-result-2 c = search needs
+array-read-result : tie.Need-array-read-result
+array-read-result c = search needs
 
 returns : tie.Need-returns
-returns c = simp (lt-ltb _ _ (c .if1 .taken))
-
-returns-2 : tie.Need-returns-2
-returns-2 c = simp (le-ltb _ _ (c .if1 .left))
+returns c = at 16 0 (c .args .d) (search needs) ∙ ap digit (zero-add (c .args .d))
 
 pub digit-spec : {M : Type 1} → statement M
-digit-spec =
-    tie.close (tie.spec cast-result add-result cast-result-2 add-result-2 returns returns-2)
+digit-spec = tie.close (tie.spec array-read-result returns)
