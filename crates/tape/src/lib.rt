@@ -15,11 +15,11 @@ pub fn run_tape(tape: &[u8], answers: &mut [u8]) -> i64
     ensures { λ r. ⌜ (r ≡ returned (linesOf (now (tape .entry))) (now (answers .entry))) × (now (answers .exit) ≡ filled (linesOf (now (tape .entry))) (now (answers .entry))) ⌝ }
 {
     if tape.len() <= answers.len() / 11 {
-        return lines(tape, answers, true) as i64;
+        return lines(tape, answers) as i64;
     }
-    let need = lines(tape, answers, false);
+    let need = lines(tape, &mut answers[..0]);
     if answers.len() < need {
         return -13;
     }
-    lines(tape, answers, true) as i64
+    lines(tape, answers) as i64
 }
