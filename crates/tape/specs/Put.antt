@@ -1,5 +1,6 @@
 -- Bytes put into the room where they are to stand, for the contracts of inner functions. Definitions only.
 use Prim.Native.Nat.{ℕ, suc, _+_, _-_, _*_, min, _≤_, _<_}
+use mathlib.Core.Logic.{_⊎_}
 use mathlib.Core.Path.{_≡_}
 use mathlib.Core.Bool.{Bool, true, false}
 use mathlib.Core.List.{List, _∷_, _++_}
@@ -135,3 +136,7 @@ pub record Turned (s₀ : State) (k : ℕ) (b : List ℕ) (i : ℕ) (s : State) 
 pub record Answered (t a b : List ℕ) (r : ℕ) : Type 0 where
   pub few : r ≤ 11 * min (length t) 65536
   pub put : Put a 0 (linesOf t) b r
+
+-- the room a takes the lines of the tape t: they are known to fit, or there are eleven bytes for each byte of the tape
+abbrev pub Roomy : List ℕ → List ℕ → Type 0
+Roomy t a = (length (linesOf t) ≤ length a) ⊎ (11 * length t ≤ length a)
