@@ -21,10 +21,11 @@ length-digits b (suc k) n = length-append (digits b k (n / b)) (digit (n % b) �
 pub record Filling (b k n p i m : ℕ) (l₀ l : List ℕ) : Type 0 where
   pub long : length l ≡ length l₀
   pub kept : take (p + i) l ≡ take (p + i) l₀
+  pub past : drop (p + k) l ≡ drop (p + k) l₀
   pub rest : digits b k n ≡ digits b i m ++ take (k - i) (drop (p + i) l)
 
 pub filling-none : (b k n p : ℕ) (l : List ℕ) → Filling b k n p k n l l
-filling-none b k n p l = record { long = refl; kept = refl; rest = sym (ap (λ (j : ℕ). digits b k n ++ take j (drop (p + k) l)) (sub-self k) ∙ append-nil (digits b k n)) }
+filling-none b k n p l = record { long = refl; kept = refl; past = refl; rest = sym (ap (λ (j : ℕ). digits b k n ++ take j (drop (p + k) l)) (sub-self k) ∙ append-nil (digits b k n)) }
 
 -- the place q is put, where the list is long enough
 placed : (l : List ℕ) (q d : ℕ) → q < length l → drop q (set l q d) ≡ d ∷ drop (suc q) l
@@ -48,6 +49,7 @@ filling-more b k n p j m l₀ l d h r e f = record {
       ∙ sym (shorter l)
       ∙ ap (take (p + j)) (f .kept)
       ∙ shorter l₀;
+  past = drop-set-lt (p + k) l (p + j) d (omega arith) ∙ f .past;
   rest =
       f .rest
       ∙ append-assoc (digits b j (m / b)) (digit (m % b) ∷ []) (take (k - suc j) (drop (p + suc j) l))
@@ -62,10 +64,12 @@ pub filling-done : (b k n p m : ℕ) (l₀ l : List ℕ) → Filling b k n p 0 m
 unfolding digits
 filling-done b k n p m l₀ l f = record {
   next = ap (λ (x : ℕ). p + x) (sym (length-digits b k n));
-  text =
+  long = f .long;
+  text = λ _.
       take-add p k l
       ∙ ap (λ (x : List ℕ). x ++ take k (drop p l)) (ap (λ (x : ℕ). take x l) (sym (add-zero p)) ∙ f .kept ∙ ap (λ (x : ℕ). take x l₀) (add-zero p))
       ∙ ap (λ (x : List ℕ). take p l₀ ++ x) (sym (f .rest ∙ ap (λ (x : ℕ). take x (drop (p + 0) l)) (sub-zero k) ∙ ap (λ (x : ℕ). take k (drop x l)) (add-zero p)));
+  rest = f .past;
 }
 
 -- ---- decimals

@@ -34,60 +34,60 @@ use Rattle.tape.specs.declared.step.State.{State}
 use Rattle.tape.specs.Bytes.{row}
 use Rattle.float.specs.Quest.{contentQuest, bfcQuest}
 use Rattle.tape.specs.Lines.{refusedLine, doneLine, placeLine, contentLine, bfcLine}
-use Rattle.tape.specs.Put.{Put, Tells, Leaves, SameState, Unplaced, asksOf, freshHead, placeRecord, questOf, stateOf}
+use Rattle.tape.specs.Put.{Line, Tells, Leaves, SameState, Unplaced, asksOf, freshHead, placeRecord, questOf, stateOf}
 use Rattle.tape.specs.Tape.{Told, freshState, widened, placed, stepOf}
 use Rattle.tape.proofs.Same.{same-refl, same-sym}
 use Rattle.tape.proofs.Stepping.{one-record}
 
 -- a state that is told is one that is left
-pub leaves : {t : Told State} {s : State} {l m : List ℕ} {r : ℕ} → Tells t s l m r → Leaves t s l m r
-leaves {t} {s} {l} {m} {r} h = subst⁻¹ (λ (x : State). Leaves t x l m r) (h .after) (record { after = same-refl _; line = h .line })
+pub leaves : {t : Told State} {s : State} {l m : List ℕ} {i r : ℕ} → Tells t s l i m r → Leaves t s l i m r
+leaves {t} {s} {l} {m} {i} {r} h = subst⁻¹ (λ (x : State). Leaves t x l i m r) (h .after) (record { after = same-refl _; line = h .line })
 
 -- what a record leaves, where the record is known
-pub of-left : (s : State) {x y : Record} {t : State} {l m : List ℕ} {r : ℕ} → x ≡ y → Leaves (stepOf s y) t l m r → Leaves (stepOf s x) t l m r
-of-left s {x} {y} {t} {l} {m} {r} e h = subst⁻¹ (λ (z : Record). Leaves (stepOf s z) t l m r) e h
+pub of-left : (s : State) {x y : Record} {t : State} {l m : List ℕ} {i r : ℕ} → x ≡ y → Leaves (stepOf s y) t l i m r → Leaves (stepOf s x) t l i m r
+of-left s {x} {y} {t} {l} {m} {i} {r} e h = subst⁻¹ (λ (z : Record). Leaves (stepOf s z) t l i m r) e h
 
 -- a fresh head is a fresh page, whatever stands in the arrays
 pub fresh-same : (h : Head) (bs : List Segment) (xs : List PlacedFloatedBox) → h ≡ freshHead → SameState freshState (stateOf (pageWith h bs xs) Calculator.None)
 unfolding freshState freshContext pageOf
 fresh-same h bs xs e = record { page = ap (λ (x : Head). pageOf (pageWith x bs xs)) (sym e); calculator = refl }
 
-pub fresh-left : (s : State) (h : Head) (bs : List Segment) (xs : List PlacedFloatedBox) {l m : List ℕ} {r : ℕ} → h ≡ freshHead → Put l 0 (row 78 []) m r → Leaves (stepOf s Record.Fresh) (stateOf (pageWith h bs xs) Calculator.None) l m r
+pub fresh-left : (s : State) (h : Head) (bs : List Segment) (xs : List PlacedFloatedBox) {l m : List ℕ} {i r : ℕ} → h ≡ freshHead → Line l i (row 78 []) m r → Leaves (stepOf s Record.Fresh) (stateOf (pageWith h bs xs) Calculator.None) l i m r
 unfolding stepOf
 fresh-left s h bs xs e p = record { after = same-sym (fresh-same h bs xs e); line = p }
 
-module _ (p : FloatContext) (k : Calculator) {l m : List ℕ} {r : ℕ} where
-  pub width-left : (w : Float) (a : Done) (q : FloatContext) → widthOf p w ≡ record { answer = a; page = q } → Put l 0 (doneLine 87 a) m r → Leaves (stepOf (stateOf p k) (Record.Width w)) (stateOf q k) l m r
+module _ (p : FloatContext) (k : Calculator) {l m : List ℕ} {i r : ℕ} where
+  pub width-left : (w : Float) (a : Done) (q : FloatContext) → widthOf p w ≡ record { answer = a; page = q } → Line l i (doneLine 87 a) m r → Leaves (stepOf (stateOf p k) (Record.Width w)) (stateOf q k) l i m r
   unfolding stepOf
-  width-left w a q e h = subst⁻¹ (λ (x : Widened). Leaves (widened (stateOf p k) x) (stateOf q k) l m r) e (record { after = same-refl _; line = h })
+  width-left w a q e h = subst⁻¹ (λ (x : Widened). Leaves (widened (stateOf p k) x) (stateOf q k) l i m r) e (record { after = same-refl _; line = h })
 
-  pub place-left : (c : Call) (a : PlaceAnswer) (q : FloatContext) → placeOf p c ≡ record { answer = a; page = q } → Put l 0 (placeLine a) m r → Leaves (stepOf (stateOf p k) (placeRecord c)) (stateOf q k) l m r
+  pub place-left : (c : Call) (a : PlaceAnswer) (q : FloatContext) → placeOf p c ≡ record { answer = a; page = q } → Line l i (placeLine a) m r → Leaves (stepOf (stateOf p k) (placeRecord c)) (stateOf q k) l i m r
   unfolding stepOf
-  place-left c a q e h = subst⁻¹ (λ (x : Placed). Leaves (placed (stateOf p k) x) (stateOf q k) l m r) e (record { after = same-refl _; line = h })
+  place-left c a q e h = subst⁻¹ (λ (x : Placed). Leaves (placed (stateOf p k) x) (stateOf q k) l i m r) e (record { after = same-refl _; line = h })
 
-  pub content-left : (c : ContentCall) (a : ContentAnswer) → a ≡ content (pageOf p) c → Put l 0 (contentLine a) m r → Leaves (stepOf (stateOf p k) (Record.Content (c .minY) (c .left) (c .right) (c .clear) (c .after))) (stateOf p k) l m r
+  pub content-left : (c : ContentCall) (a : ContentAnswer) → a ≡ content (pageOf p) c → Line l i (contentLine a) m r → Leaves (stepOf (stateOf p k) (Record.Content (c .minY) (c .left) (c .right) (c .clear) (c .after))) (stateOf p k) l i m r
   unfolding stepOf
   content-left c a e h = record { after = same-refl _; line = rw (sym e) h }
 
-  pub bfc-left : (c : BfcCall) (a : BfcAnswer) → a ≡ bfc (pageOf p) c → Put l 0 (bfcLine a) m r → Leaves (stepOf (stateOf p k) (Record.Bfc (c .minY) (c .left) (c .right) (c .leftMargin) (c .rightMargin) (c .direction) (c .clear) (c .after))) (stateOf p k) l m r
+  pub bfc-left : (c : BfcCall) (a : BfcAnswer) → a ≡ bfc (pageOf p) c → Line l i (bfcLine a) m r → Leaves (stepOf (stateOf p k) (Record.Bfc (c .minY) (c .left) (c .right) (c .leftMargin) (c .rightMargin) (c .direction) (c .clear) (c .after))) (stateOf p k) l i m r
   unfolding stepOf
   bfc-left c a e h = record { after = same-refl _; line = rw (sym e) h }
 
 -- a placement that is refused
-pub refused-left : (h : Head) (k : Calculator) (bs : List Segment) (xs : List PlacedFloatedBox) (c : Call) {x : Record} {n : Refusal} {l m : List ℕ} {r : ℕ} → x ≡ placeRecord c → length bs ≡ 96 → length xs ≡ 64 → Unplaced h (Read.Whole x) n → Put l 0 (refusedLine n) m r → Leaves (stepOf (stateOf (pageWith h bs xs) k) x) (stateOf (pageWith h bs xs) k) l m r
+pub refused-left : (h : Head) (k : Calculator) (bs : List Segment) (xs : List PlacedFloatedBox) (c : Call) {x : Record} {n : Refusal} {l m : List ℕ} {i r : ℕ} → x ≡ placeRecord c → length bs ≡ 96 → length xs ≡ 64 → Unplaced h (Read.Whole x) n → Line l i (refusedLine n) m r → Leaves (stepOf (stateOf (pageWith h bs xs) k) x) (stateOf (pageWith h bs xs) k) l i m r
 unfolding placeLine
 refused-left h k bs xs c e a b u p = of-left _ e (place-left _ k c _ _ (u .refused c (ap Read.Whole e) bs xs a b) p)
 
 -- what is found for a question that was read
-module _ (h : Head) (bs : List Segment) (xs : List PlacedFloatedBox) (k : Calculator) {q : Quest} {v : Read} {x : Record} {l m : List ℕ} {n : ℕ} where
+module _ (h : Head) (bs : List Segment) (xs : List PlacedFloatedBox) (k : Calculator) {q : Quest} {v : Read} {x : Record} {l m : List ℕ} {i n : ℕ} where
   pub content-found : {y left right : Float} {clear : ℕ} {after : BandNumber} {a : ContentAnswer} →
       let c : ContentCall = record { minY = y; left = left; right = right; clear = clear; after = after } in
-      v ≡ Read.Whole x → v ≡ Read.Whole (Record.Content y left right clear after) → q ≡ questOf h v → (q ≡ contentQuest h c → a ≡ content (pageOf (pageWith h bs xs)) c) → Put l 0 (contentLine a) m n → Leaves (stepOf (stateOf (pageWith h bs xs) k) x) (stateOf (pageWith h bs xs) k) l m n
+      v ≡ Read.Whole x → v ≡ Read.Whole (Record.Content y left right clear after) → q ≡ questOf h v → (q ≡ contentQuest h c → a ≡ content (pageOf (pageWith h bs xs)) c) → Line l i (contentLine a) m n → Leaves (stepOf (stateOf (pageWith h bs xs) k) x) (stateOf (pageWith h bs xs) k) l i m n
   content-found e r w g p = of-left _ (one-record e r) (content-left _ k _ _ (g (w ∙ ap (questOf h) r)) p)
 
   pub bfc-found : {y left right lm rm : Float} {dir clear : ℕ} {after : BandNumber} {a : BfcAnswer} →
       let c : BfcCall = record { minY = y; left = left; right = right; leftMargin = lm; rightMargin = rm; direction = dir; clear = clear; after = after } in
-      v ≡ Read.Whole x → v ≡ Read.Whole (Record.Bfc y left right lm rm dir clear after) → q ≡ questOf h v → (q ≡ bfcQuest h c → a ≡ bfc (pageOf (pageWith h bs xs)) c) → Put l 0 (bfcLine a) m n → Leaves (stepOf (stateOf (pageWith h bs xs) k) x) (stateOf (pageWith h bs xs) k) l m n
+      v ≡ Read.Whole x → v ≡ Read.Whole (Record.Bfc y left right lm rm dir clear after) → q ≡ questOf h v → (q ≡ bfcQuest h c → a ≡ bfc (pageOf (pageWith h bs xs)) c) → Line l i (bfcLine a) m n → Leaves (stepOf (stateOf (pageWith h bs xs) k) x) (stateOf (pageWith h bs xs) k) l i m n
   bfc-found e r w g p = of-left _ (one-record e r) (bfc-left _ k _ _ (g (w ∙ ap (questOf h) r)) p)
 
 -- a page is that of its parts

@@ -4,19 +4,17 @@ use mathlib.Core.Bool.{Bool, true, false, _&&_, cond}
 use mathlib.Core.Logic.{⊎-elim}
 use mathlib.Core.Path.{_≡_, refl, sym, ap, _∙_, subst}
 use mathlib.Core.List.{List, [], _∷_, _++_, append-nil}
-use native.Mathlib.Numerals.{add-one}
 use native.Mathlib.Omega.{arith}
 use borrow.Author.Tests.{leb-true}
 use lib.Dec.{ltb, leb}
-use lib.ListN.{length, take, drop, getD, set, length-take, drop-of-length-le}
-use lib.Seq.{paste, paste-suc}
+use lib.ListN.{length, drop, drop-of-length-le}
 use Rattle.float.specs.declared.Head.{Head}
 use Rattle.float.specs.declared.Refusal.{Refusal}
 use Rattle.tape.specs.declared.record.Read.{Read}
 use Rattle.tape.specs.declared.record.Record.{Record}
 use Rattle.tape.specs.declared.step.State.{State}
 use Rattle.tape.specs.Bytes.{decimal, row}
-use Rattle.tape.specs.Put.{Put, Leaves, Unplaced, Turned}
+use Rattle.tape.specs.Put.{Line, Leaves, Unplaced, Turned}
 use Rattle.tape.specs.Record.{bodyLen, recordOf, readOf}
 use Rattle.tape.specs.Tape.{stepOf, run}
 use Rattle.tape.proofs.Lengths.{by-kind, length-offset}
@@ -55,13 +53,6 @@ is-record : (k : ℕ) (b : List ℕ) {r : Record} → readOf k b ≡ Read.Whole 
 unfolding readOf
 is-record k b e = same-record (ltb k 8 && leb (bodyLen k) (length b)) (recordOf k b) e
 
--- a line at the front: its bytes, and that they fit
-pub line-of : {l₀ l t : List ℕ} {r : ℕ} → Put l₀ 0 t l r → take r l ≡ t
-line-of p = p .text
-
-pub line-fits : {l₀ l t : List ℕ} {r : ℕ} → Put l₀ 0 t l r → r ≤ length l
-line-fits {l₀} {l} {t} {r} p = let a = p .next in let b = ap length (p .text) in let c = length-take r l in omega arith
-
 -- a refusal that stands for what was read stands for the record
 pub of-read : {h : Head} {r : Read} {x : Record} {n : Refusal} → r ≡ Read.Whole x → Unplaced h r n → Unplaced h (Read.Whole x) n
 of-read {h} {r} {x} {n} e u = subst (λ (z : Read). Unplaced h z n) e u
@@ -80,45 +71,34 @@ module _ (s₀ : State) (k : ℕ) (b : List ℕ) (i : ℕ) where
   unfolding run
   goes-broken f e = rw (e, run)
 
-  pub turned-whole : {r : Record} {s : State} {l₀ l : List ℕ} {m len : ℕ} → length l ≡ 80 → readOf k b ≡ Read.Whole r → Leaves (stepOf s₀ r) s l₀ l len → m ≡ bodyLen k → Turned s₀ k b i s (i + 1 + m) l len
-  turned-whole {r} {s} {l₀} {l} {m} {len} q e t h = record {
+  pub turned-whole : {r : Record} {s : State} {l₀ l : List ℕ} {p q m : ℕ} → readOf k b ≡ Read.Whole r → Leaves (stepOf s₀ r) s l₀ p l q → m ≡ bodyLen k → Turned s₀ k b i s (i + 1 + m) l₀ p l q
+  turned-whole {r} {s} {l₀} {l} {p} {q} {m} e t h = record {
+    line = stepOf s₀ r .line;
     goes = λ f.
         let a : suc (i + bodyLen k) ≡ i + 1 + m = omega arith in
         let d : bodyLen k ≡ i + 1 + m - suc i = omega arith in
         let g = goes-whole f e in
-        let o = line-of (t .line) in
         let w = run-same f (i + 1 + m) (drop (bodyLen k) b) (t .after) in
         cc;
     on = omega arith;
     within = let g = body-fits k b e in omega arith;
-    fits = line-fits (t .line);
     few =
-        let a = line-fits (t .line) in
-        let d = t .line .next in
+        let a = t .line .short in
+        let d = t .line .put .next in
         let o = is-record k b e in
         ⊎-elim (λ x. omega arith) (λ x. let y = ap (λ (z : Record). length (stepOf s₀ z .line)) o in omega arith) (by-kind s₀ k b);
+    put = t .line .put;
   }
 
-  pub turned-broken : {l₀ l : List ℕ} {n len : ℕ} → i < 65536 → i + 1 + length b ≡ n → readOf k b ≡ Read.Broken → Put l₀ 0 (row 84 (decimal i ∷ [])) l len → Turned s₀ k b i s₀ n l len
-  turned-broken {l₀} {l} {n} {len} q h e p = record {
+  pub turned-broken : {l₀ l : List ℕ} {p q n : ℕ} → i < 65536 → i + 1 + length b ≡ n → readOf k b ≡ Read.Broken → Line l₀ p (row 84 (decimal i ∷ [])) l q → Turned s₀ k b i s₀ n l₀ p l q
+  turned-broken {l₀} {l} {p} {q} {n} u h e t = record {
+    line = row 84 (decimal i ∷ []);
     goes = λ f.
         goes-broken f e
-        ∙ sym (line-of p)
-        ∙ sym (append-nil (take len l))
-        ∙ ap (λ (x : List ℕ). take len l ++ x) (sym (ap (λ (x : List ℕ). run f n x s₀) (drop-of-length-le b {i = n - suc i} (omega arith)) ∙ run-none f n s₀));
+        ∙ sym (append-nil (row 84 (decimal i ∷ [])))
+        ∙ ap (λ (x : List ℕ). row 84 (decimal i ∷ []) ++ x) (sym (ap (λ (x : List ℕ). run f n x s₀) (drop-of-length-le b {i = n - suc i} (omega arith)) ∙ run-none f n s₀));
     on = omega arith;
     within = omega arith;
-    fits = line-fits p;
-    few = let a = p .next in let d = length-offset i q in omega arith;
+    few = let d = length-offset i u in omega arith;
+    put = t .put;
   }
-
--- ---- copying a line
-
-pub copied : {a : List ℕ} (a₀ : List ℕ) (p : ℕ) (l : List ℕ) (i : ℕ) → p + i < length a₀ → i < length l → a ≡ paste a₀ p l i → set a (p + i) (getD l i 0) ≡ paste a₀ p l (i + 1)
-copied a₀ p l i h g e = ap (λ (x : List ℕ). set x (p + i) (getD l i 0)) e ∙ paste-suc a₀ p l i 0 h g ∙ ap (paste a₀ p l) (sym (add-one i))
-
-pub pasted : (w : Bool) {a : List ℕ} (a₀ : List ℕ) (p : ℕ) (l : List ℕ) {i : ℕ} (n : ℕ) → w ≡ true → i ≡ n → a ≡ paste a₀ p l i → a ≡ cond w (paste a₀ p l n) a₀
-pasted w a₀ p l n e h g = g ∙ ap (paste a₀ p l) h ∙ ap (λ (b : Bool). cond b (paste a₀ p l n) a₀) (sym e)
-
-pub unchanged : (w : Bool) (x : List ℕ) {a : List ℕ} → w ≡ false → a ≡ cond w x a
-unchanged w x {a} e = ap (λ (b : Bool). cond b x a) (sym e)

@@ -28,8 +28,8 @@ use Rattle.tape.specs.Put.{Tells, Places, Unplaced, reckons, questRecord
 use Rattle.tape.specs.Tape.{Told, onCalculator, notAdded}
 use Rattle.tape.proofs.record.Record.{the-type}
 
-pub of-known : {A B : Type 0} (f : B → Told A) {x y : B} {a : A} {l m : List ℕ} {r : ℕ} → x ≡ y → Tells (f y) a l m r → Tells (f x) a l m r
-of-known {A} {B} f {x} {y} {a} {l} {m} {r} e t = subst⁻¹ (λ (z : B). Tells (f z) a l m r) e t
+pub of-known : {A B : Type 0} (f : B → Told A) {x y : B} {a : A} {l m : List ℕ} {i r : ℕ} → x ≡ y → Tells (f y) a l i m r → Tells (f x) a l i m r
+of-known {A} {B} f {x} {y} {a} {l} {m} {i} {r} e t = subst⁻¹ (λ (z : B). Tells (f z) a l i m r) e t
 
 -- a calculator of min-content refuses what is refused with no calculator, but for refusal 8
 abbrev givenUp : Done → Refusal
@@ -46,7 +46,7 @@ module _ (c : FloatIntrinsicWidthCalculator) (w : Float) (side clear : ℕ) wher
   not-added m e = ap givenUp (sym e) ∙ by-check (addCheck w side clear) refl m
 
 -- what is told of the calculator, told of the state
-pub on-calculator : (s : State) {t : Told Calculator} {k : Calculator} {l m : List ℕ} {r : ℕ} → Tells t k l m r → Tells (onCalculator s t) (record { page = s .page; calculator = k }) l m r
+pub on-calculator : (s : State) {t : Told Calculator} {k : Calculator} {l m : List ℕ} {i r : ℕ} → Tells t k l i m r → Tells (onCalculator s t) (record { page = s .page; calculator = k }) l i m r
 on-calculator s h = record { after = ap (λ (k : Calculator). record { page = s .page; calculator = k }) (h .after); line = h .line }
 
 apart : {A : Type 0} → false ≡ true → A

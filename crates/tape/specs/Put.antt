@@ -1,8 +1,8 @@
--- Bytes put into a line where it lies, and what a record does to a page in three parts. No promise to a reader names them. Definitions only.
+-- Bytes put into the room where they are to stand, and what a record does to a page in three parts. No promise to a reader names them. Definitions only.
 use Prim.Native.Nat.{ℕ, suc, _+_, _-_, _*_, min, _≤_, _<_}
 use mathlib.Core.Logic.{_⊎_}
 use mathlib.Core.Path.{_≡_}
-use mathlib.Core.Bool.{Bool, true, false, cond}
+use mathlib.Core.Bool.{Bool, true, false}
 use mathlib.Core.List.{List, _∷_, _++_}
 use lib.ListN.{length, take, drop}
 use Rattle.f32_laws.specs.Numbers.{zero+}
@@ -15,7 +15,7 @@ use Rattle.float.specs.declared.Refusal.{Refusal}
 use Rattle.float.specs.declared.Segment.{Segment}
 use Rattle.float.specs.declared.refuse.Check.{Check}
 use Rattle.float.specs.Head.{pageWith}
-use Rattle.float.specs.Page.{front, pageOf}
+use Rattle.float.specs.Page.{pageOf}
 use Rattle.float.specs.Place.{Call, placeOf}
 use Rattle.float.specs.declared.hold.Admission.{Admission}
 use Rattle.float.specs.declared.ask.Quest.{Quest}
@@ -27,15 +27,26 @@ use Rattle.tape.specs.declared.step.Calculator.{Calculator}
 use Rattle.tape.specs.declared.step.State.{State}
 use Rattle.tape.specs.Tape.{Told, run, linesOf}
 
--- t was put at i into l, which is then m: r is the place after it, and what stood before i still stands
+-- no line ends past this: eleven bytes for each byte of the longest tape, and a line
+abbrev pub reach : ℕ
+reach = 720960
+
+-- t was put at i into l, which is then m: r is the place after it, and what stood past r still stands; where r is in l, t stands, and so does what stood before i
 pub record Put (l : List ℕ) (i : ℕ) (t m : List ℕ) (r : ℕ) : Type 0 where
   pub next : r ≡ i + length t
-  pub text : take r m ≡ take i l ++ t
+  pub long : length m ≡ length l
+  pub text : r ≤ length l → take r m ≡ take i l ++ t
+  pub rest : drop r m ≡ drop r l
 
--- t is told: a is what it leaves, and its line of r bytes was put at the front of l, which is then m
-pub record Tells {A : Type 0} (t : Told A) (a : A) (l m : List ℕ) (r : ℕ) : Type 0 where
+-- the same of a line, which has at most 64 bytes
+pub record Line (l : List ℕ) (i : ℕ) (t m : List ℕ) (r : ℕ) : Type 0 where
+  pub short : r ≤ i + 64
+  pub put : Put l i t m r
+
+-- t is told: a is what it leaves, and its line was put at i into l, which is then m, and ends at r
+pub record Tells {A : Type 0} (t : Told A) (a : A) (l : List ℕ) (i : ℕ) (m : List ℕ) (r : ℕ) : Type 0 where
   pub after : a ≡ t .after
-  pub line : Put l 0 (t .line) m r
+  pub line : Line l i (t .line) m r
 
 abbrev pub stateOf : FloatContext → Calculator → State
 stateOf p c = record { page = p; calculator = c }
@@ -46,9 +57,9 @@ pub record SameState (s t : State) : Type 0 where
   pub calculator : s .calculator ≡ t .calculator
 
 -- the same of a state, up to dead places
-pub record Leaves (t : Told State) (s : State) (l m : List ℕ) (r : ℕ) : Type 0 where
+pub record Leaves (t : Told State) (s : State) (l : List ℕ) (i : ℕ) (m : List ℕ) (r : ℕ) : Type 0 where
   pub after : SameState s (t .after)
-  pub line : Put l 0 (t .line) m r
+  pub line : Line l i (t .line) m r
 
 -- the head of a fresh page
 abbrev pub freshHead : Head
@@ -112,20 +123,20 @@ abbrev pub questOf : Head → Read → Quest
 questOf p (Read.Whole r) = questIn p r
 questOf p Read.Broken = noQuest
 
--- the record of the kind k and the body b at the offset i was run: s is the state after it, n the next offset, and its line the first r bytes of l
-pub record Turned (s₀ : State) (k : ℕ) (b : List ℕ) (i : ℕ) (s : State) (n : ℕ) (l : List ℕ) (r : ℕ) : Type 0 where
-  pub goes : (f : ℕ) → run (suc f) i (k ∷ b) s₀ ≡ take r l ++ run f n (drop (n - suc i) b) s
+-- the record of the kind k and the body b at the offset i was run: s is the state after it, n the next offset, and its line was put at p into l, which is then m, and ends at r
+pub record Turned (s₀ : State) (k : ℕ) (b : List ℕ) (i : ℕ) (s : State) (n : ℕ) (l : List ℕ) (p : ℕ) (m : List ℕ) (r : ℕ) : Type 0 where
+  pub line : List ℕ
+  pub goes : (f : ℕ) → run (suc f) i (k ∷ b) s₀ ≡ line ++ run f n (drop (n - suc i) b) s
   pub on : i < n
   pub within : n ≤ suc i + length b
-  pub fits : r ≤ length l
-  pub few : r ≤ 11 * (n - i)
+  pub few : length line ≤ 11 * (n - i)
+  pub put : Put l p line m r
 
--- the lines of the tape t are counted, r bytes, and where w says so they stand at the front of a, which is then b
-pub record Answered (w : Bool) (t a b : List ℕ) (r : ℕ) : Type 0 where
-  pub count : r ≡ length (linesOf t)
+-- the lines of the tape t were put at the front of a, which is then b: they have r bytes
+pub record Answered (t a b : List ℕ) (r : ℕ) : Type 0 where
   pub few : r ≤ 11 * min (length t) 65536
-  pub text : b ≡ cond w (front (linesOf t) a) a
+  pub put : Put a 0 (linesOf t) b r
 
--- the lines of the tape t can be written into a: they are known to fit, or there are eleven bytes for each byte of the tape
+-- the room a takes the lines of the tape t: they are known to fit, or there are eleven bytes for each byte of the tape
 abbrev pub Roomy : List ℕ → List ℕ → Type 0
 Roomy t a = (length (linesOf t) ≤ length a) ⊎ (11 * length t ≤ length a)

@@ -18,7 +18,7 @@ fn written(tape: &[u8], answers: &mut [u8]) -> i64
     requires { ⌜ Roomy (now tape) (now answers) ⌝ }
     ensures { λ r. ⌜ (r ≡ returned (linesOf (now (tape .entry))) (now (answers .entry))) × (now (answers .exit) ≡ filled (linesOf (now (tape .entry))) (now (answers .entry))) ⌝ }
 {
-    let count = lines(tape, answers, true);
+    let count = lines(tape, answers);
     if answers.len() < count {
         return NO_ROOM;
     }
@@ -33,7 +33,7 @@ pub fn run_tape(tape: &[u8], answers: &mut [u8]) -> i64
     if tape.len() <= answers.len() / 11 {
         return written(tape, answers);
     }
-    let need = lines(tape, answers, false);
+    let need = lines(tape, &mut answers[..0]);
     if answers.len() < need {
         return NO_ROOM;
     }

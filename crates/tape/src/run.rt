@@ -15,24 +15,23 @@ use float::FloatContext;
 use float::Head;
 use float::Refusal;
 use float::hold;
-ghost use mathlib.Core.Bool.{true, false, cond};
+ghost use mathlib.Core.Bool.{false};
 ghost use mathlib.Core.List.{List};
 ghost use mathlib.Core.Path.{_≡_};
 ghost use Prim.Native.Nat.{ℕ, _+_, _-_, _≤_, _<_, min};
 ghost use lib.ListN.{length};
-ghost use lib.Seq.{paste};
 ghost use Rattle.float.specs.declared.PlacedFloatedBox.{PlacedFloatedBox as BoxOf};
 ghost use Rattle.float.specs.declared.Segment.{Segment as SegmentOf};
 ghost use Rattle.float.specs.Head.{pageWith};
 ghost use Rattle.tape.specs.Record.{readOf};
-ghost use Rattle.tape.specs.Put.{Turned, Answered, Roomy, Unplaced, asksOf, stateOf};
+ghost use Rattle.tape.specs.Put.{Turned, Answered, Unplaced, asksOf, stateOf, reach};
 
-// The head and the calculator after a record, the offset of the next, and the length of its line.
+// The head and the calculator after a record, the offset of the next, and where its line ends.
 struct Ran {
     head: Head,
     calculator: Calculator,
     next: usize,
-    len: usize,
+    end: usize,
 }
 
 // A record that leaves the arrays, of a tape of n bytes. A broken record ends the tape: no byte is left after it.
@@ -44,28 +43,29 @@ fn turn(
     kind: u8,
     n: usize,
     at: usize,
-    line: &mut [u8],
+    room: &mut [u8],
+    to: usize,
 ) -> Ran
-    requires { ⌜ (length (now line) ≡ 80) × (at < n) × (n ≤ 65536) × (asksOf read ≡ false) × Unplaced head read no ⌝ }
-    ensures { λ r. ⌜ ((bs : List SegmentOf) (xs : List BoxOf) (body : List ℕ) → length bs ≡ 96 → length xs ≡ 64 → read ≡ readOf kind body → at + 1 + length body ≡ n → Turned (stateOf (pageWith head bs xs) calculator) kind body at (stateOf (pageWith (r .head) bs xs) (r .calculator)) (r .next) (now (line .exit)) (r .len)) ⌝ }
+    requires { ⌜ (to + 64 ≤ reach) × (at < n) × (n ≤ 65536) × (asksOf read ≡ false) × Unplaced head read no ⌝ }
+    ensures { λ r. ⌜ ((bs : List SegmentOf) (xs : List BoxOf) (body : List ℕ) → length bs ≡ 96 → length xs ≡ 64 → read ≡ readOf kind body → at + 1 + length body ≡ n → Turned (stateOf (pageWith head bs xs) calculator) kind body at (stateOf (pageWith (r .head) bs xs) (r .calculator)) (r .next) (now (room .entry)) to (now (room .exit)) (r .end)) ⌝ }
 {
     match read {
         Read::Whole(call) => {
-            let r = rest_of(head, calculator, call, no, line);
+            let r = rest_of(head, calculator, call, no, room, to);
             let after = r.head;
             let reckoned = r.calculator;
             Ran {
                 head: after,
                 calculator: reckoned,
                 next: at + 1 + body_len(kind),
-                len: r.len,
+                end: r.end,
             }
         }
         Read::Broken => Ran {
             head: head,
             calculator: calculator,
             next: n,
-            len: number_line(line, b'T', at),
+            end: number_line(room, to, b'T', at),
         },
     }
 }
@@ -94,32 +94,10 @@ fn last_of(n: usize) -> usize
     if n == 0 { 0 } else { n - 1 }
 }
 
-// A line to its place in the answers. The tests of the room never fail where the tape holds still, and are proved to; one that changes
-// between its two runs may have longer lines than were counted, and then they keep them out of what lies after the room.
-fn put_line(answers: &mut [u8], to: usize, line: &[u8], len: usize, writing: bool)
-    requires { ⌜ (writing ≡ true → to + len ≤ length (now answers)) × (len ≤ length (now line)) ⌝ }
-    ensures { λ _. ⌜ now (answers .exit) ≡ cond writing (paste (now (answers .entry)) to (now (line .entry)) len) (now (answers .entry)) ⌝ }
+fn records(tape: &[u8], answers: &mut [u8]) -> usize
+    requires { ⌜ length (now tape) ≤ 65536 ⌝ }
+    ensures { λ r. ⌜ Answered (now (tape .entry)) (now (answers .entry)) (now (answers .exit)) r ⌝ }
 {
-    if writing {
-        if answers.len() < to {
-            return;
-        }
-        if answers.len() - to < len {
-            return;
-        }
-        let mut i = 0;
-        while i < len {
-            answers[to + i] = line[i];
-            i += 1;
-        }
-    }
-}
-
-fn records(tape: &[u8], answers: &mut [u8], writing: bool) -> usize
-    requires { ⌜ (length (now tape) ≤ 65536) × (writing ≡ true → Roomy (now tape) (now answers)) ⌝ }
-    ensures { λ r. ⌜ Answered writing (now (tape .entry)) (now (answers .entry)) (now (answers .exit)) r ⌝ }
-{
-    let mut line = [0u8; 80];
     let page = FloatContext::new();
     let mut bands = page.bands;
     let mut boxes = page.boxes;
@@ -149,9 +127,7 @@ fn records(tape: &[u8], answers: &mut [u8], writing: bool) -> usize
             }
             let b = bands[placed(i)];
             let last = bands[last_of(q.n)];
-            let len = found_line(head, read, q, i, k, b, last, &mut line);
-            put_line(answers, to, &line, len, writing);
-            to += len;
+            to = found_line(head, read, q, i, k, b, last, answers, to);
             at = at + 1 + body_len(kind);
             continue;
         }
@@ -190,35 +166,38 @@ fn records(tape: &[u8], answers: &mut [u8], writing: bool) -> usize
                 head = after;
             }
             let answer = entry.answer;
-            let len = place_line(&mut line, answer);
-            put_line(answers, to, &line, len, writing);
-            to += len;
+            to = place_line(answers, to, answer);
             at = at + 1 + body_len(kind);
             continue;
         }
         let no = places.no;
-        let t = turn(head, calculator, read, no, kind, tape.len(), at, &mut line);
+        let t = turn(
+            head,
+            calculator,
+            read,
+            no,
+            kind,
+            tape.len(),
+            at,
+            answers,
+            to,
+        );
         let after = t.head;
         let reckoned = t.calculator;
         head = after;
         calculator = reckoned;
-        put_line(answers, to, &line, t.len, writing);
-        to += t.len;
+        to = t.end;
         at = t.next;
     }
     to
 }
 
-// Counts the bytes of the lines, and writes them where it is to.
-pub fn lines(tape: &[u8], answers: &mut [u8], writing: bool) -> usize
-    requires { ⌜ (writing ≡ true → Roomy (now tape) (now answers)) ⌝ }
-    ensures { λ r. ⌜ Answered writing (now (tape .entry)) (now (answers .entry)) (now (answers .exit)) r ⌝ }
+// Counts the bytes of the lines, and writes them where the room holds them.
+pub fn lines(tape: &[u8], answers: &mut [u8]) -> usize
+    ensures { λ r. ⌜ Answered (now (tape .entry)) (now (answers .entry)) (now (answers .exit)) r ⌝ }
 {
     if tape.len() <= 65536 {
-        return records(tape, answers, writing);
+        return records(tape, answers);
     }
-    let mut line = [0u8; 80];
-    let len = letter_line(&mut line, b'L');
-    put_line(answers, 0, &line, len, writing);
-    len
+    letter_line(answers, 0, b'L')
 }

@@ -27,7 +27,7 @@ use float::hold::Check;
 ghost use mathlib.Core.Path.{_≡_};
 ghost use mathlib.Core.Bool.{true, false, _&&_};
 ghost use mathlib.Core.List.{List, [], _∷_};
-ghost use Prim.Native.Nat.{_≤_, _-_, min};
+ghost use Prim.Native.Nat.{_+_, _≤_, _-_, min};
 ghost use lib.Dec.{ltb};
 ghost use lib.ListN.{length, getD};
 ghost use Rattle.float.specs.declared.FloatContext.{FloatContext as PageOf};
@@ -40,7 +40,7 @@ ghost use Rattle.tape.specs.declared.step.Calculator.{Calculator as Calc
 ghost use Rattle.float.specs.Quest.{Found};
 ghost use Rattle.float.specs.Numbers.{size, plusZero};
 ghost use Rattle.float.specs.Refuse.{checkOf};
-ghost use Rattle.tape.specs.Put.{Put, Tells, Leaves, Places, Unplaced, asksOf, questRecord, reckons, questOf, noQuest, freshHead, stateOf};
+ghost use Rattle.tape.specs.Put.{Line, Tells, Leaves, Places, Unplaced, asksOf, questRecord, reckons, questOf, noQuest, freshHead, stateOf, reach};
 ghost use Rattle.tape.specs.Tape.{startOf, started, notAdded, addTo, resultLine, stepOf};
 
 pub enum Calculator {
@@ -54,10 +54,10 @@ pub struct State {
     pub calculator: Calculator,
 }
 
-// The calculator after a record that leaves the page, and the length of its line.
+// The calculator after a record that leaves the page, and where its line ends.
 pub struct Reckoned {
     pub calculator: Calculator,
-    pub len: usize,
+    pub end: usize,
 }
 
 fn start_of(mode: Mode) -> CalculatorAnswer
@@ -69,19 +69,19 @@ fn start_of(mode: Mode) -> CalculatorAnswer
     }
 }
 
-fn start(old: Calculator, mode: Mode, line: &mut [u8]) -> Reckoned
-    requires { ⌜ 64 ≤ length (now line) ⌝ }
-    ensures { λ r. ⌜ Tells (started old (startOf mode)) (r .calculator) (now (line .entry)) (now (line .exit)) (r .len) ⌝ }
+fn start(old: Calculator, mode: Mode, room: &mut [u8], at: usize) -> Reckoned
+    requires { ⌜ at + 64 ≤ reach ⌝ }
+    ensures { λ r. ⌜ Tells (started old (startOf mode)) (r .calculator) (now (room .entry)) at (now (room .exit)) (r .end) ⌝ }
 {
     let answer = start_of(mode);
     match answer {
         CalculatorAnswer::Started(c) => Reckoned {
             calculator: Calculator::One(c),
-            len: letter_line(line, b'S'),
+            end: letter_line(room, at, b'S'),
         },
         CalculatorAnswer::Refused(n) => Reckoned {
             calculator: old,
-            len: refused_line(line, n),
+            end: refused_line(room, at, n),
         },
     }
 }
@@ -105,9 +105,16 @@ fn not_added(width: f32, side: u8, clear: u8) -> Refusal
     }
 }
 
-fn add(calculator: Calculator, width: f32, side: u8, clear: u8, line: &mut [u8]) -> Reckoned
-    requires { ⌜ 64 ≤ length (now line) ⌝ }
-    ensures { λ r. ⌜ Tells (addTo calculator width side clear) (r .calculator) (now (line .entry)) (now (line .exit)) (r .len) ⌝ }
+fn add(
+    calculator: Calculator,
+    width: f32,
+    side: u8,
+    clear: u8,
+    room: &mut [u8],
+    at: usize,
+) -> Reckoned
+    requires { ⌜ at + 64 ≤ reach ⌝ }
+    ensures { λ r. ⌜ Tells (addTo calculator width side clear) (r .calculator) (now (room .entry)) at (now (room .exit)) (r .end) ⌝ }
 {
     match calculator {
         Calculator::One(c) => {
@@ -116,37 +123,37 @@ fn add(calculator: Calculator, width: f32, side: u8, clear: u8, line: &mut [u8])
             let after = r.calculator;
             Reckoned {
                 calculator: Calculator::One(after),
-                len: done_line(line, b'A', answer),
+                end: done_line(room, at, b'A', answer),
             }
         }
         Calculator::None => Reckoned {
             calculator: Calculator::None,
-            len: refused_line(line, not_added(width, side, clear)),
+            end: refused_line(room, at, not_added(width, side, clear)),
         },
     }
 }
 
-fn result_line(calculator: Calculator, line: &mut [u8]) -> usize
-    requires { ⌜ 64 ≤ length (now line) ⌝ }
-    ensures { λ r. ⌜ Put (now (line .entry)) 0 (resultLine calculator) (now (line .exit)) r ⌝ }
+fn result_line(calculator: Calculator, room: &mut [u8], at: usize) -> usize
+    requires { ⌜ at + 64 ≤ reach ⌝ }
+    ensures { λ r. ⌜ Line (now (room .entry)) at (resultLine calculator) (now (room .exit)) r ⌝ }
 {
     match calculator {
-        Calculator::One(c) => width_line(line, c.result()),
-        Calculator::None => refused_line(line, Refusal::NoCalculator),
+        Calculator::One(c) => width_line(room, at, c.result()),
+        Calculator::None => refused_line(room, at, Refusal::NoCalculator),
     }
 }
 
 // A call of the calculator.
-fn reckon(calculator: Calculator, call: Record, line: &mut [u8]) -> Reckoned
-    requires { ⌜ (64 ≤ length (now line)) × (reckons call ≡ true) ⌝ }
-    ensures { λ r. ⌜ ((page : PageOf) → Tells (stepOf (stateOf page calculator) call) (stateOf page (r .calculator)) (now (line .entry)) (now (line .exit)) (r .len)) ⌝ }
+fn reckon(calculator: Calculator, call: Record, room: &mut [u8], at: usize) -> Reckoned
+    requires { ⌜ (at + 64 ≤ reach) × (reckons call ≡ true) ⌝ }
+    ensures { λ r. ⌜ ((page : PageOf) → Tells (stepOf (stateOf page calculator) call) (stateOf page (r .calculator)) (now (room .entry)) at (now (room .exit)) (r .end)) ⌝ }
 {
     match call {
-        Record::Start(mode) => start(calculator, mode, line),
-        Record::Add { width, side, clear } => add(calculator, width, side, clear, line),
+        Record::Start(mode) => start(calculator, mode, room, at),
+        Record::Add { width, side, clear } => add(calculator, width, side, clear, room, at),
         _ => Reckoned {
             calculator: calculator,
-            len: result_line(calculator, line),
+            end: result_line(calculator, room, at),
         },
     }
 }
@@ -292,10 +299,11 @@ pub fn found_line(
     k: usize,
     b: Segment,
     last: Segment,
-    line: &mut [u8],
+    room: &mut [u8],
+    at: usize,
 ) -> usize
-    requires { ⌜ (64 ≤ length (now line)) × (asksOf read ≡ true) × (q ≡ questOf head read) ⌝ }
-    ensures { λ r. ⌜ ((bs : List SegmentOf) (xs : List BoxOf) (calculator : CalculatorOf) (call : RecordOf) → length bs ≡ 96 → read ≡ Read.Whole call → Found bs q i k → b ≡ getD bs (min i 95) none → last ≡ getD bs (q .n - min (q .n) 1) none → Leaves (stepOf (stateOf (pageWith head bs xs) calculator) call) (stateOf (pageWith head bs xs) calculator) (now (line .entry)) (now (line .exit)) r) ⌝ }
+    requires { ⌜ (at + 64 ≤ reach) × (asksOf read ≡ true) × (q ≡ questOf head read) ⌝ }
+    ensures { λ r. ⌜ ((bs : List SegmentOf) (xs : List BoxOf) (calculator : CalculatorOf) (call : RecordOf) → length bs ≡ 96 → read ≡ Read.Whole call → Found bs q i k → b ≡ getD bs (min i 95) none → last ≡ getD bs (q .n - min (q .n) 1) none → Leaves (stepOf (stateOf (pageWith head bs xs) calculator) call) (stateOf (pageWith head bs xs) calculator) (now (room .entry)) at (now (room .exit)) r) ⌝ }
 {
     let Read::Whole(call) = read else {
         return 0;
@@ -307,7 +315,7 @@ pub fn found_line(
             right,
             clear: _,
             after: _,
-        } => content_line(line, ask::content_found(head, q, i, k, b, left, right)),
+        } => content_line(room, at, ask::content_found(head, q, i, k, b, left, right)),
         Record::Bfc {
             min_y: _,
             left,
@@ -318,7 +326,8 @@ pub fn found_line(
             clear: _,
             after: _,
         } => bfc_line(
-            line,
+            room,
+            at,
             ask::bfc_found(
                 head,
                 q,
@@ -337,11 +346,11 @@ pub fn found_line(
     }
 }
 
-// The head and the calculator after a record, and the length of its line.
+// The head and the calculator after a record, and where its line ends.
 pub struct Rest {
     pub head: Head,
     pub calculator: Calculator,
-    pub len: usize,
+    pub end: usize,
 }
 
 pub fn fresh_head() -> Head
@@ -367,16 +376,17 @@ pub fn rest_of(
     calculator: Calculator,
     call: Record,
     no: Refusal,
-    line: &mut [u8],
+    room: &mut [u8],
+    at: usize,
 ) -> Rest
-    requires { ⌜ (64 ≤ length (now line)) × (questRecord call ≡ false) ⌝ }
-    ensures { λ r. ⌜ ((bs : List SegmentOf) (xs : List BoxOf) → length bs ≡ 96 → length xs ≡ 64 → Unplaced head (Read.Whole call) no → Leaves (stepOf (stateOf (pageWith head bs xs) calculator) call) (stateOf (pageWith (r .head) bs xs) (r .calculator)) (now (line .entry)) (now (line .exit)) (r .len)) ⌝ }
+    requires { ⌜ (at + 64 ≤ reach) × (questRecord call ≡ false) ⌝ }
+    ensures { λ r. ⌜ ((bs : List SegmentOf) (xs : List BoxOf) → length bs ≡ 96 → length xs ≡ 64 → Unplaced head (Read.Whole call) no → Leaves (stepOf (stateOf (pageWith head bs xs) calculator) call) (stateOf (pageWith (r .head) bs xs) (r .calculator)) (now (room .entry)) at (now (room .exit)) (r .end)) ⌝ }
 {
     match call {
         Record::Fresh => Rest {
             head: fresh_head(),
             calculator: Calculator::None,
-            len: letter_line(line, b'N'),
+            end: letter_line(room, at, b'N'),
         },
         Record::Width(w) => {
             let r = hold::widen(head, w);
@@ -385,7 +395,7 @@ pub fn rest_of(
             Rest {
                 head: after,
                 calculator: calculator,
-                len: done_line(line, b'W', answer),
+                end: done_line(room, at, b'W', answer),
             }
         }
         Record::Place {
@@ -399,15 +409,15 @@ pub fn rest_of(
         } => Rest {
             head: head,
             calculator: calculator,
-            len: refused_line(line, no),
+            end: refused_line(room, at, no),
         },
         _ => {
-            let s = reckon(calculator, call, line);
+            let s = reckon(calculator, call, room, at);
             let after = s.calculator;
             Rest {
                 head: head,
                 calculator: after,
-                len: s.len,
+                end: s.end,
             }
         }
     }

@@ -1,7 +1,5 @@
--- `tape::run_tape` meets its contract: with eleven bytes for each byte of the tape the lines are written at once; else they are counted first.
-use Prim.Native.Nat.{ℕ}
+-- `tape::run_tape` meets its contract: with eleven bytes for each byte of the tape the lines are written at once; else they are counted first, in no room.
 use mathlib.Core.Logic.{inr}
-use mathlib.Core.Path.{_≡_}
 use native.Mathlib.Omega.{arith}
 use Rattle.tape.proofs.Room.{short, enough, counted}
 use borrow.Author.Needs.{needs}
@@ -17,8 +15,14 @@ same-length c = search needs
 returns : tie.Need-returns
 returns c = search needs
 
+slice-relend-prefix-lines : tie.Need-slice-relend-prefix-lines
+slice-relend-prefix-lines c = search needs
+
+slice-aggregate-lines : tie.Need-slice-aggregate-lines
+slice-aggregate-lines c = search needs
+
 lines-requires : tie.Need-lines-requires
-lines-requires c κs = λ e. let z : _≡_ {A = ℕ} 0 1 = cc in absurd (omega arith)
+lines-requires c κs = search needs
 
 same-length-2 : tie.Need-same-length-2
 same-length-2 c = search needs
@@ -42,6 +46,8 @@ run-tape-spec =
     written-requires
     same-length
     returns
+    slice-relend-prefix-lines
+    slice-aggregate-lines
     lines-requires
     same-length-2
     returns-2

@@ -49,7 +49,7 @@ returns c =
     let c = d .before .before .before .before in
     let b = c .before .before .before .before in
     let a = b .before .before .before .before in
-    of-answer bfcLine (a .before .before .before .answer .given .1) (then (a .put .ensures) (then (b .put-band .ensures .1) (then (c .put-float .ensures .1) (then (d .put-float2 .ensures .1) (then (e .put-float3 .ensures .1) (then (f .put-float4 .ensures .1) (g .put2 .ensures)))))))
+    of-answer bfcLine (a .before .before .before .answer .given .1) (record { short = search needs; put = then (a .put .ensures) (then (b .put-band .ensures .1) (then (c .put-float .ensures .1) (then (d .put-float2 .ensures .1) (then (e .put-float3 .ensures .1) (then (f .put-float4 .ensures .1) (g .put2 .ensures)))))) })
 
 same-length-2 : tie.Need-same-length-2
 same-length-2 c = search needs

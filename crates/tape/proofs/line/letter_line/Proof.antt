@@ -19,7 +19,7 @@ unfolding fields
 returns c =
     let b = c .before .before in
     let a = b .before .before .before .before in
-    then (a .put .ensures) (b .put2 .ensures)
+    record { short = search needs; put = then (a .put .ensures) (b .put2 .ensures) }
 
 pub letter-line-spec : {M : Type 1} → statement M
 letter-line-spec = tie.close (tie.spec put-requires put-requires-2 same-length returns)

@@ -23,7 +23,7 @@ returns c =
     let c = c .before .before in
     let b = c .before .before .before .before in
     let a = b .before .before .before .before in
-    then (a .put .ensures) (then (b .put-number .ensures .1) (c .put2 .ensures))
+    record { short = search needs; put = then (a .put .ensures) (then (b .put-number .ensures .1) (c .put2 .ensures)) }
 
 pub number-line-spec : {M : Type 1} → statement M
 number-line-spec =

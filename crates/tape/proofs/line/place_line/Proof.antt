@@ -41,7 +41,7 @@ returns c =
     let c = d .before .before .before .before in
     let b = c .before .before .before .before in
     let a = b .before .before .before .before in
-    of-answer placeLine (a .before .before .before .answer .given .1) (then (a .put .ensures) (then (b .put-float .ensures .1) (then (c .put-float2 .ensures .1) (then (d .put-number .ensures .1) (e .put2 .ensures)))))
+    of-answer placeLine (a .before .before .before .answer .given .1) (record { short = search needs; put = then (a .put .ensures) (then (b .put-float .ensures .1) (then (c .put-float2 .ensures .1) (then (d .put-number .ensures .1) (e .put2 .ensures)))) })
 
 same-length-2 : tie.Need-same-length-2
 same-length-2 c = search needs

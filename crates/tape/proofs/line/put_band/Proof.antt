@@ -3,7 +3,7 @@ use Rattle.float.specs.declared.BandNumber.{BandNumber}
 use mathlib.Core.List.{_∷_}
 use native.Mathlib.Omega.{arith}
 use Rattle.tape.specs.Lines.{band}
-use Rattle.tape.proofs.Putting.{then, of-answer}
+use Rattle.tape.proofs.Putting.{then, of-field}
 use borrow.Author.Needs.{needs}
 use Rattle.tape.proofs.line.put_band.Statement.{statement}
 use Rattle.tape.proofs.line.put_band.Tie as tie
@@ -33,14 +33,14 @@ returns c =
     let a = b .before .before .before .before in
     let p = a .put .ensures .next in
     let q = b .put2 .ensures .next in
-    (omega arith, of-answer (λ (x : BandNumber). 32 ∷ band x) (a .before .before .enum-told .given .1) (then (a .put .ensures) (b .put2 .ensures)))
+    (omega arith, of-field (λ (x : BandNumber). 32 ∷ band x) (a .before .before .enum-told .given .1) (then (a .put .ensures) (b .put2 .ensures)))
 
 same-length-2 : tie.Need-same-length-2
 same-length-2 c = search needs
 
 returns-2 : tie.Need-returns-2
 unfolding band
-returns-2 c = (c .before .before .put-number .ensures .0, of-answer (λ (x : BandNumber). 32 ∷ band x) (c .before .before .before .before .before .b .given .1) (c .before .before .put-number .ensures .1))
+returns-2 c = (c .before .before .put-number .ensures .0, of-field (λ (x : BandNumber). 32 ∷ band x) (c .before .before .before .before .before .b .given .1) (c .before .before .put-number .ensures .1))
 
 pub put-band-spec : {M : Type 1} → statement M
 put-band-spec =

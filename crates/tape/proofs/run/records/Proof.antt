@@ -1,4 +1,4 @@
--- `tape::run::records` meets its contract. The outer invariant: the lines so far stand where they are written, and the rest of the tape makes the rest, in the state of the page's three parts.
+-- `tape::run::records` meets its contract. The outer invariant: the lines so far were put at the front of the answers, and the rest of the tape makes the rest, in the state of the page's three parts.
 use Prim.Native.Nat.{ℕ, _+_, _-_, _≤_, _<_}
 use denote.Ref.{now}
 use mathlib.Core.Path.{_≡_, refl, sym, ap, _∙_}
@@ -15,7 +15,7 @@ use Rattle.float.proofs.Holding.{looked-order, Walking, walking-first, walking-
 use Rattle.float.proofs.Scan.{Scans, scan-starts, scan-goes, scan-finds, scan-ends}
 use Rattle.tape.specs.Put.{Places, Turned, stateOf}
 use Rattle.tape.specs.Record.{bodyLen}
-use Rattle.tape.proofs.Going.{Going, going-fresh, going-room, going-more, going-done}
+use Rattle.tape.proofs.Going.{Going, going-fresh, going-more, going-done}
 use Rattle.tape.proofs.Held.{asked, of-parts, place-left, bands-long, boxes-long, again-low, again-scans}
 use Rattle.tape.proofs.Running.{body-short, turned-whole}
 use borrow.Author.Needs.{needs}
@@ -23,38 +23,38 @@ use Rattle.tape.proofs.run.records.Statement.{statement}
 use Rattle.tape.proofs.run.records.Tie as tie
 
 abbrev Inv-loop2 : tie.InvT-loop2
-Inv-loop2 tape answers writing line bands boxes head calculator at to kind read q i₀ i = Scans bands (q .n) (q .from) (q .above) i
+Inv-loop2 tape answers bands boxes head calculator at to kind read q i₀ i = Scans bands (q .n) (q .from) (q .above) i
 
 abbrev μ-loop2 : tie.MeasureT-loop2
-μ-loop2 tape answers writing line bands boxes head calculator at to kind read q i₀ i = q .n - i
+μ-loop2 tape answers bands boxes head calculator at to kind read q i₀ i = q .n - i
 
 abbrev Inv-loop3 : tie.InvT-loop3
-Inv-loop3 tape answers writing line bands boxes head calculator at to kind read q i k₀ k = (k ≤ q .n) × (q .n ≤ i → Scans bands (q .n) 0 (q .y) k)
+Inv-loop3 tape answers bands boxes head calculator at to kind read q i k₀ k = (k ≤ q .n) × (q .n ≤ i → Scans bands (q .n) 0 (q .y) k)
 
 abbrev μ-loop3 : tie.MeasureT-loop3
-μ-loop3 tape answers writing line bands boxes head calculator at to kind read q i k₀ k = q .n - k
+μ-loop3 tape answers bands boxes head calculator at to kind read q i k₀ k = q .n - k
 
 abbrev Inv-loop4 : tie.InvT-loop4
-Inv-loop4 tape answers writing line bands boxes head calculator at to kind adm a n spot bottom stop e₀ e = Walking (take n bands) a spot stop e
+Inv-loop4 tape answers bands boxes head calculator at to kind adm a n spot bottom stop e₀ e = Walking (take n bands) a spot stop e
 
 abbrev μ-loop4 : tie.MeasureT-loop4
-μ-loop4 tape answers writing line bands boxes head calculator at to kind adm a n spot bottom stop e₀ e = e
+μ-loop4 tape answers bands boxes head calculator at to kind adm a n spot bottom stop e₀ e = e
 
 abbrev Inv-loop5 : tie.InvT-loop5
-Inv-loop5 tape answers writing line bands₀ boxes head calculator at to kind a n bottom stop e entry plan j₀ bands j = Writing a plan bands₀ bands j
+Inv-loop5 tape answers bands₀ boxes head calculator at to kind a n bottom stop e entry plan j₀ bands j = Writing a plan bands₀ bands j
 
 abbrev μ-loop5 : tie.MeasureT-loop5
-μ-loop5 tape answers writing line bands₀ boxes head calculator at to kind a n bottom stop e entry plan j₀ bands j = j
+μ-loop5 tape answers bands₀ boxes head calculator at to kind a n bottom stop e entry plan j₀ bands j = j
 
 abbrev Inv-loop : tie.InvT-loop
-Inv-loop tape answers₀ writing line₀ bands₀ boxes₀ head₀ calculator₀ at₀ to₀ answers line bands boxes head calculator at to = Going tape writing answers₀ answers (stateOf (pageWith head bands boxes) calculator) at to × (length line ≡ 80) × (length bands ≡ 96) × (length boxes ≡ 64)
+Inv-loop tape answers₀ bands₀ boxes₀ head₀ calculator₀ at₀ to₀ answers bands boxes head calculator at to = Going tape answers₀ answers (stateOf (pageWith head bands boxes) calculator) at to × (length bands ≡ 96) × (length boxes ≡ 64)
 
 abbrev μ-loop : tie.MeasureT-loop
-μ-loop tape answers₀ writing line₀ bands₀ boxes₀ head₀ calculator₀ at₀ to₀ answers line bands boxes head calculator at to = length tape - at
+μ-loop tape answers₀ bands₀ boxes₀ head₀ calculator₀ at₀ to₀ answers bands boxes head calculator at to = length tape - at
 
 -- the bands that are looked through are some of the array
 few : (c : tie.After-asking Inv-loop2 μ-loop2 Inv-loop3 μ-loop3 Inv-loop4 μ-loop4 Inv-loop5 μ-loop5 Inv-loop μ-loop) → c .asking .result .quest .n ≤ length (c .before .before .before .before .before .loop .bands)
-few c = omega (arith, c .before .before .before .before .before .loop .inv .2, c .asking .ensures .2)
+few c = omega (arith, c .before .before .before .before .before .loop .inv .1, c .asking .ensures .2)
 
 -- both loops leave at what the question looks for
 found : (c : tie.Joined4 Inv-loop2 μ-loop2 Inv-loop3 μ-loop3 Inv-loop4 μ-loop4 Inv-loop5 μ-loop5 Inv-loop μ-loop) → Found (c .before .before .before .before .before .before .before .before .before .before .before .before .before .before .loop .bands) (c .before .before .before .before .before .before .before .before .before .asking .result .quest) (c .before .before .before .before .before .before .loop2 .i) (c .before .before .loop3 .k)
@@ -66,11 +66,11 @@ found c =
     }
 
 -- a question was answered
-question : (c : tie.After-found-line Inv-loop2 μ-loop2 Inv-loop3 μ-loop3 Inv-loop4 μ-loop4 Inv-loop5 μ-loop5 Inv-loop μ-loop) → (m : ℕ) → m ≡ bodyLen (getD (now (c .before .before .before .before .before .before .before .before .before .before .before .before .before .before .before .before .before .before .before .before .before .before .before .before .before .before .before .args .tape)) (c .before .before .before .before .before .before .before .before .before .before .before .before .before .before .before .before .before .before .before .before .loop .at) 0) → Turned (stateOf (pageWith (c .before .before .before .before .before .before .before .before .before .before .before .before .before .before .before .before .before .before .before .before .loop .head) (c .before .before .before .before .before .before .before .before .before .before .before .before .before .before .before .before .before .before .before .before .loop .bands) (c .before .before .before .before .before .before .before .before .before .before .before .before .before .before .before .before .before .before .before .before .loop .boxes)) (c .before .before .before .before .before .before .before .before .before .before .before .before .before .before .before .before .before .before .before .before .loop .calculator)) (getD (now (c .before .before .before .before .before .before .before .before .before .before .before .before .before .before .before .before .before .before .before .before .before .before .before .before .before .before .before .args .tape)) (c .before .before .before .before .before .before .before .before .before .before .before .before .before .before .before .before .before .before .before .before .loop .at) 0) (take (length (now (c .before .before .before .before .before .before .before .before .before .before .before .before .before .before .before .before .before .before .before .before .before .before .before .before .before .before .before .args .tape)) - (c .before .before .before .before .before .before .before .before .before .before .before .before .before .before .before .before .before .before .before .before .loop .at + 1)) (drop (c .before .before .before .before .before .before .before .before .before .before .before .before .before .before .before .before .before .before .before .before .loop .at + 1) (now (c .before .before .before .before .before .before .before .before .before .before .before .before .before .before .before .before .before .before .before .before .before .before .before .before .before .before .before .args .tape)))) (c .before .before .before .before .before .before .before .before .before .before .before .before .before .before .before .before .before .before .before .before .loop .at) (stateOf (pageWith (c .before .before .before .before .before .before .before .before .before .before .before .before .before .before .before .before .before .before .before .before .loop .head) (c .before .before .before .before .before .before .before .before .before .before .before .before .before .before .before .before .before .before .before .before .loop .bands) (c .before .before .before .before .before .before .before .before .before .before .before .before .before .before .before .before .before .before .before .before .loop .boxes)) (c .before .before .before .before .before .before .before .before .before .before .before .before .before .before .before .before .before .before .before .before .loop .calculator)) (c .before .before .before .before .before .before .before .before .before .before .before .before .before .before .before .before .before .before .before .before .loop .at + 1 + m) (c .found-line .last .1 .1 .1 .1 .1 .1 .1 .0) (c .found-line .result)
+question : (c : tie.After-found-line Inv-loop2 μ-loop2 Inv-loop3 μ-loop3 Inv-loop4 μ-loop4 Inv-loop5 μ-loop5 Inv-loop μ-loop) → (m : ℕ) → m ≡ bodyLen (getD (now (c .before .before .before .before .before .before .before .before .before .before .before .before .before .before .before .before .before .before .before .before .before .before .before .before .before .before .before .args .tape)) (c .before .before .before .before .before .before .before .before .before .before .before .before .before .before .before .before .before .before .before .before .loop .at) 0) → Turned (stateOf (pageWith (c .before .before .before .before .before .before .before .before .before .before .before .before .before .before .before .before .before .before .before .before .loop .head) (c .before .before .before .before .before .before .before .before .before .before .before .before .before .before .before .before .before .before .before .before .loop .bands) (c .before .before .before .before .before .before .before .before .before .before .before .before .before .before .before .before .before .before .before .before .loop .boxes)) (c .before .before .before .before .before .before .before .before .before .before .before .before .before .before .before .before .before .before .before .before .loop .calculator)) (getD (now (c .before .before .before .before .before .before .before .before .before .before .before .before .before .before .before .before .before .before .before .before .before .before .before .before .before .before .before .args .tape)) (c .before .before .before .before .before .before .before .before .before .before .before .before .before .before .before .before .before .before .before .before .loop .at) 0) (take (length (now (c .before .before .before .before .before .before .before .before .before .before .before .before .before .before .before .before .before .before .before .before .before .before .before .before .before .before .before .args .tape)) - (c .before .before .before .before .before .before .before .before .before .before .before .before .before .before .before .before .before .before .before .before .loop .at + 1)) (drop (c .before .before .before .before .before .before .before .before .before .before .before .before .before .before .before .before .before .before .before .before .loop .at + 1) (now (c .before .before .before .before .before .before .before .before .before .before .before .before .before .before .before .before .before .before .before .before .before .before .before .before .before .before .before .args .tape)))) (c .before .before .before .before .before .before .before .before .before .before .before .before .before .before .before .before .before .before .before .before .loop .at) (stateOf (pageWith (c .before .before .before .before .before .before .before .before .before .before .before .before .before .before .before .before .before .before .before .before .loop .head) (c .before .before .before .before .before .before .before .before .before .before .before .before .before .before .before .before .before .before .before .before .loop .bands) (c .before .before .before .before .before .before .before .before .before .before .before .before .before .before .before .before .before .before .before .before .loop .boxes)) (c .before .before .before .before .before .before .before .before .before .before .before .before .before .before .before .before .before .before .before .before .loop .calculator)) (c .before .before .before .before .before .before .before .before .before .before .before .before .before .before .before .before .before .before .before .before .loop .at + 1 + m) (c .before .before .before .before .before .before .before .before .before .before .before .before .before .before .before .before .before .before .before .before .loop .answers) (c .before .before .before .before .before .before .before .before .before .before .before .before .before .before .before .before .before .before .before .before .loop .to) (c .found-line .last .1 .1 .1 .1 .1 .1 .1 .0) (c .found-line .result)
 question c = λ m e.
     let l = c .before .before .before .before .before .before .before .before .before .before .before .before .before .before .before .before .before .before .before .before .loop in
     let w = asked _ (sym (c .before .before .before .before .before .before .before .before .before .before .before .before .before .before .before .asking .ensures .0) ∙ c .before .before .before .before .before .before .before .before .before .before .before .before .before .before .if1 .taken) in
-    turned-whole _ _ _ (l .at) (c .found-line .kept .1 .1 .1 .1 .1 .1 .1 .0 ∙ l .inv .1) (sym (c .before .before .before .before .before .before .before .before .before .before .before .before .before .before .before .before .read-record .ensures) ∙ w .read) (c .found-line .ensures (l .bands) (l .boxes) (l .calculator) (w .call) (l .inv .2) (w .read) (found (c .before .before .before .before .before .before)) (ap (λ (k : ℕ). getD (l .bands) k none) (c .before .before .before .before .before .placed .ensures)) (ap (λ (k : ℕ). getD (l .bands) k none) (c .before .before .before .last-of .ensures))) e
+    turned-whole _ _ _ (l .at) (sym (c .before .before .before .before .before .before .before .before .before .before .before .before .before .before .before .before .read-record .ensures) ∙ w .read) (c .found-line .ensures (l .bands) (l .boxes) (l .calculator) (w .call) (l .inv .1) (w .read) (found (c .before .before .before .before .before .before)) (ap (λ (k : ℕ). getD (l .bands) k none) (c .before .before .before .before .before .placed .ensures)) (ap (λ (k : ℕ). getD (l .bands) k none) (c .before .before .before .last-of .ensures))) e
 
 -- a placement is to be made
 places : (c : tie.Then6 Inv-loop2 μ-loop2 Inv-loop3 μ-loop3 Inv-loop4 μ-loop4 Inv-loop5 μ-loop5 Inv-loop μ-loop) → Places (c .before .before .before .before .before .before .before .before .before .loop .head) (c .before .before .before .before .before .read-record .result) (c .before .before .placing .result .admission)
@@ -78,7 +78,7 @@ places c = c .before .before .placing .ensures .0 (c .if6 .taken)
 
 -- its bands are some of the array
 long : (c : tie.Then6 Inv-loop2 μ-loop2 Inv-loop3 μ-loop3 Inv-loop4 μ-loop4 Inv-loop5 μ-loop5 Inv-loop μ-loop) → c .before .before .placing .result .admission .n ≤ length (c .before .before .before .before .before .before .before .before .before .loop .bands)
-long c = omega (arith, places (c) .admits .few, c .before .before .before .before .before .before .before .before .before .loop .inv .2)
+long c = omega (arith, places (c) .admits .few, c .before .before .before .before .before .before .before .before .before .loop .inv .1)
 
 -- where the end may walk, the search ended in a band
 end-in : (c : tie.In-loop4 Inv-loop2 μ-loop2 Inv-loop3 μ-loop3 Inv-loop4 μ-loop4 Inv-loop5 μ-loop5 Inv-loop μ-loop) → c .before .before .before .before .before .look .result .end < c .before .before .before .before .before .before .before .before .before .placing .result .admission .n
@@ -89,7 +89,7 @@ entered : (c : tie.After-enter Inv-loop2 μ-loop2 Inv-loop3 μ-loop3 Inv-loop4 �
 entered c =
     let l = c .before .before .before .before .before .before .before .before .before .before .before .before .before .before .before .before .before .before .before .before .before .before .before .loop in
     let p = places (c .before .before .before .before .before .before .before .before .before .before .before .before .before .before) in
-    c .enter .ensures (p .call) (l .bands) (l .boxes) (l .inv .2) (l .inv .3) (p .admits) (p .passed) (c .before .before .before .before .before .before .before .before .before .before .before .before .look .ensures)
+    c .enter .ensures (p .call) (l .bands) (l .boxes) (l .inv .1) (l .inv .2) (p .admits) (p .passed) (c .before .before .before .before .before .before .before .before .before .before .before .before .look .ensures)
     (⊎-elim (λ w. walking-end (c .before .before .before .before .before .before .before .before .before .before .before .before .before .before .before .before .before .before .before .before .before .before .before .loop .bands) (c .before .before .before .before .before .before .before .before .before .before .before .before .before .before .before .before .placing .result .admission .n) (long (c .before .before .before .before .before .before .before .before .before .before .before .before .before .before)) (c .before .before .before .before .before .before .before .before .before .before .before .before .before .before .before .before .placing .result .admission .ask) (c .before .before .before .before .before .before .before .before .before .before .before .before .look .result) (c .before .before .before .before .before .before .before .before .before .stop-of .result) (c .before .before .before .before .before .before .before .before .before .stop-of .ensures) (c .before .before .before .before .before .before .before .before .loop4 .e) (c .before .before .before .before .before .before .before .before .loop4 .inv) (w .left)) (λ w. walking-stop (c .before .before .before .before .before .before .before .before .before .before .before .before .before .before .before .before .before .before .before .before .before .before .before .loop .bands) (c .before .before .before .before .before .before .before .before .before .before .before .before .before .before .before .before .placing .result .admission .n) (long (c .before .before .before .before .before .before .before .before .before .before .before .before .before .before)) (c .before .before .before .before .before .before .before .before .before .before .before .before .before .before .before .before .placing .result .admission .ask) (c .before .before .before .before .before .before .before .before .before .before .before .before .look .result) (c .before .before .before .before .before .before .before .before .before .stop-of .result) (c .before .before .before .before .before .before .before .before .before .stop-of .ensures) (c .before .before .before .before .before .before .before .before .loop4 .e) (c .before .before .before .before .before .before .before .before .loop4 .inv) (w .0 .taken) (not-true _ (w .1 .taken))) (c .before .before .before .before .before .before .before .loop4-test .came))
     (ap (λ (k : ℕ). getD (l .bands) k none) (c .before .before .before .before .before .before .last-of2 .ensures))
     (ap (λ (k : ℕ). getD (l .bands) k none) (c .before .before .before .before .placed2 .ensures))
@@ -106,24 +106,24 @@ done c =
     ⊎-elim
     (λ w.
     let t = writing-end (c .before .before .before .before .before .before .before .before .before .before .before .before .before .before .before .before .before .placing .result .admission .ask) (c .before .enter .result .plan) (l .bands) (w .2 .bands) (w .2 .j) (w .2 .inv) (w .4 .left) in
-    (of-parts (entered (c .before) .accepted (w .0 .taken) (w .2 .bands) t) (w .9) (w .7) (w .8), ap length (w .7) ∙ t .long ∙ l .inv .2, ap length (w .8) ∙ length-set (l .boxes) (l .head .«box_count») (c .before .enter .result .floated) ∙ l .inv .3))
-    (λ w. (of-parts (entered (c .before) .refused (w .0 .left)) (w .3) (w .1) (w .2), ap length (w .1) ∙ l .inv .2, ap length (w .2) ∙ l .inv .3))
+    (of-parts (entered (c .before) .accepted (w .0 .taken) (w .2 .bands) t) (w .9) (w .7) (w .8), ap length (w .7) ∙ t .long ∙ l .inv .1, ap length (w .8) ∙ length-set (l .boxes) (l .head .«box_count») (c .before .enter .result .floated) ∙ l .inv .2))
+    (λ w. (of-parts (entered (c .before) .refused (w .0 .left)) (w .3) (w .1) (w .2), ap length (w .1) ∙ l .inv .1, ap length (w .2) ∙ l .inv .2))
     (c .if8 .came)
 
 -- a placement was made, or refused
-placement : (c : tie.After-place-line Inv-loop2 μ-loop2 Inv-loop3 μ-loop3 Inv-loop4 μ-loop4 Inv-loop5 μ-loop5 Inv-loop μ-loop) → (m : ℕ) → m ≡ bodyLen (getD (now (c .before .before .before .before .before .before .before .before .before .before .before .before .before .before .before .before .before .before .before .before .before .before .before .before .before .before .before .before .before .before .before .before .before .args .tape)) (c .before .before .before .before .before .before .before .before .before .before .before .before .before .before .before .before .before .before .before .before .before .before .before .before .before .before .loop .at) 0) → Turned (stateOf (pageWith (c .before .before .before .before .before .before .before .before .before .before .before .before .before .before .before .before .before .before .before .before .before .before .before .before .before .before .loop .head) (c .before .before .before .before .before .before .before .before .before .before .before .before .before .before .before .before .before .before .before .before .before .before .before .before .before .before .loop .bands) (c .before .before .before .before .before .before .before .before .before .before .before .before .before .before .before .before .before .before .before .before .before .before .before .before .before .before .loop .boxes)) (c .before .before .before .before .before .before .before .before .before .before .before .before .before .before .before .before .before .before .before .before .before .before .before .before .before .before .loop .calculator)) (getD (now (c .before .before .before .before .before .before .before .before .before .before .before .before .before .before .before .before .before .before .before .before .before .before .before .before .before .before .before .before .before .before .before .before .before .args .tape)) (c .before .before .before .before .before .before .before .before .before .before .before .before .before .before .before .before .before .before .before .before .before .before .before .before .before .before .loop .at) 0) (take (length (now (c .before .before .before .before .before .before .before .before .before .before .before .before .before .before .before .before .before .before .before .before .before .before .before .before .before .before .before .before .before .before .before .before .before .args .tape)) - (c .before .before .before .before .before .before .before .before .before .before .before .before .before .before .before .before .before .before .before .before .before .before .before .before .before .before .loop .at + 1)) (drop (c .before .before .before .before .before .before .before .before .before .before .before .before .before .before .before .before .before .before .before .before .before .before .before .before .before .before .loop .at + 1) (now (c .before .before .before .before .before .before .before .before .before .before .before .before .before .before .before .before .before .before .before .before .before .before .before .before .before .before .before .before .before .before .before .before .before .args .tape)))) (c .before .before .before .before .before .before .before .before .before .before .before .before .before .before .before .before .before .before .before .before .before .before .before .before .before .before .loop .at) (stateOf (pageWith (c .before .before .if8 .head) (c .before .before .if8 .bands) (c .before .before .if8 .boxes)) (c .before .before .before .before .before .before .before .before .before .before .before .before .before .before .before .before .before .before .before .before .before .before .before .before .before .before .loop .calculator)) (c .before .before .before .before .before .before .before .before .before .before .before .before .before .before .before .before .before .before .before .before .before .before .before .before .before .before .loop .at + 1 + m) (c .place-line .last .0) (c .place-line .result)
+placement : (c : tie.After-place-line Inv-loop2 μ-loop2 Inv-loop3 μ-loop3 Inv-loop4 μ-loop4 Inv-loop5 μ-loop5 Inv-loop μ-loop) → (m : ℕ) → m ≡ bodyLen (getD (now (c .before .before .before .before .before .before .before .before .before .before .before .before .before .before .before .before .before .before .before .before .before .before .before .before .before .before .before .before .before .before .before .before .before .args .tape)) (c .before .before .before .before .before .before .before .before .before .before .before .before .before .before .before .before .before .before .before .before .before .before .before .before .before .before .loop .at) 0) → Turned (stateOf (pageWith (c .before .before .before .before .before .before .before .before .before .before .before .before .before .before .before .before .before .before .before .before .before .before .before .before .before .before .loop .head) (c .before .before .before .before .before .before .before .before .before .before .before .before .before .before .before .before .before .before .before .before .before .before .before .before .before .before .loop .bands) (c .before .before .before .before .before .before .before .before .before .before .before .before .before .before .before .before .before .before .before .before .before .before .before .before .before .before .loop .boxes)) (c .before .before .before .before .before .before .before .before .before .before .before .before .before .before .before .before .before .before .before .before .before .before .before .before .before .before .loop .calculator)) (getD (now (c .before .before .before .before .before .before .before .before .before .before .before .before .before .before .before .before .before .before .before .before .before .before .before .before .before .before .before .before .before .before .before .before .before .args .tape)) (c .before .before .before .before .before .before .before .before .before .before .before .before .before .before .before .before .before .before .before .before .before .before .before .before .before .before .loop .at) 0) (take (length (now (c .before .before .before .before .before .before .before .before .before .before .before .before .before .before .before .before .before .before .before .before .before .before .before .before .before .before .before .before .before .before .before .before .before .args .tape)) - (c .before .before .before .before .before .before .before .before .before .before .before .before .before .before .before .before .before .before .before .before .before .before .before .before .before .before .loop .at + 1)) (drop (c .before .before .before .before .before .before .before .before .before .before .before .before .before .before .before .before .before .before .before .before .before .before .before .before .before .before .loop .at + 1) (now (c .before .before .before .before .before .before .before .before .before .before .before .before .before .before .before .before .before .before .before .before .before .before .before .before .before .before .before .before .before .before .before .before .before .args .tape)))) (c .before .before .before .before .before .before .before .before .before .before .before .before .before .before .before .before .before .before .before .before .before .before .before .before .before .before .loop .at) (stateOf (pageWith (c .before .before .if8 .head) (c .before .before .if8 .bands) (c .before .before .if8 .boxes)) (c .before .before .before .before .before .before .before .before .before .before .before .before .before .before .before .before .before .before .before .before .before .before .before .before .before .before .loop .calculator)) (c .before .before .before .before .before .before .before .before .before .before .before .before .before .before .before .before .before .before .before .before .before .before .before .before .before .before .loop .at + 1 + m) (c .before .before .before .before .before .before .before .before .before .before .before .before .before .before .before .before .before .before .before .before .before .before .before .before .before .before .loop .answers) (c .before .before .before .before .before .before .before .before .before .before .before .before .before .before .before .before .before .before .before .before .before .before .before .before .before .before .loop .to) (c .place-line .last .0) (c .place-line .result)
 placement c = λ m e.
     let l = c .before .before .before .before .before .before .before .before .before .before .before .before .before .before .before .before .before .before .before .before .before .before .before .before .before .before .loop in
     let p = places (c .before .before .before .before .before .before .before .before .before .before .before .before .before .before .before .before .before) in
-    turned-whole _ _ _ (l .at) (c .place-line .kept .0 ∙ l .inv .1) (sym (c .before .before .before .before .before .before .before .before .before .before .before .before .before .before .before .before .before .before .before .before .before .before .read-record .ensures) ∙ p .read) (place-left _ (l .calculator) (p .call) _ _ (done (c .before .before) .0) (c .place-line .ensures)) e
+    turned-whole _ _ _ (l .at) (sym (c .before .before .before .before .before .before .before .before .before .before .before .before .before .before .before .before .before .before .before .before .before .before .read-record .ensures) ∙ p .read) (place-left _ (l .calculator) (p .call) _ _ (done (c .before .before) .0) (c .place-line .ensures)) e
 
 -- any other record
-other : (c : tie.After-turn Inv-loop2 μ-loop2 Inv-loop3 μ-loop3 Inv-loop4 μ-loop4 Inv-loop5 μ-loop5 Inv-loop μ-loop) → Turned (stateOf (pageWith (c .before .before .before .before .before .before .before .before .before .before .before .loop .head) (c .before .before .before .before .before .before .before .before .before .before .before .loop .bands) (c .before .before .before .before .before .before .before .before .before .before .before .loop .boxes)) (c .before .before .before .before .before .before .before .before .before .before .before .loop .calculator)) (getD (now (c .before .before .before .before .before .before .before .before .before .before .before .before .before .before .before .before .before .before .args .tape)) (c .before .before .before .before .before .before .before .before .before .before .before .loop .at) 0) (take (length (now (c .before .before .before .before .before .before .before .before .before .before .before .before .before .before .before .before .before .before .args .tape)) - (c .before .before .before .before .before .before .before .before .before .before .before .loop .at + 1)) (drop (c .before .before .before .before .before .before .before .before .before .before .before .loop .at + 1) (now (c .before .before .before .before .before .before .before .before .before .before .before .before .before .before .before .before .before .before .args .tape)))) (c .before .before .before .before .before .before .before .before .before .before .before .loop .at) (stateOf (pageWith (c .turn .result .head) (c .before .before .before .before .before .before .before .before .before .before .before .loop .bands) (c .before .before .before .before .before .before .before .before .before .before .before .loop .boxes)) (c .turn .result .calculator)) (c .turn .result .next) (c .turn .last .1 .1 .1 .1 .1 .1 .1 .0) (c .turn .result .len)
+other : (c : tie.After-turn Inv-loop2 μ-loop2 Inv-loop3 μ-loop3 Inv-loop4 μ-loop4 Inv-loop5 μ-loop5 Inv-loop μ-loop) → Turned (stateOf (pageWith (c .before .before .before .before .before .before .before .before .before .before .before .loop .head) (c .before .before .before .before .before .before .before .before .before .before .before .loop .bands) (c .before .before .before .before .before .before .before .before .before .before .before .loop .boxes)) (c .before .before .before .before .before .before .before .before .before .before .before .loop .calculator)) (getD (now (c .before .before .before .before .before .before .before .before .before .before .before .before .before .before .before .before .before .before .args .tape)) (c .before .before .before .before .before .before .before .before .before .before .before .loop .at) 0) (take (length (now (c .before .before .before .before .before .before .before .before .before .before .before .before .before .before .before .before .before .before .args .tape)) - (c .before .before .before .before .before .before .before .before .before .before .before .loop .at + 1)) (drop (c .before .before .before .before .before .before .before .before .before .before .before .loop .at + 1) (now (c .before .before .before .before .before .before .before .before .before .before .before .before .before .before .before .before .before .before .args .tape)))) (c .before .before .before .before .before .before .before .before .before .before .before .loop .at) (stateOf (pageWith (c .turn .result .head) (c .before .before .before .before .before .before .before .before .before .before .before .loop .bands) (c .before .before .before .before .before .before .before .before .before .before .before .loop .boxes)) (c .turn .result .calculator)) (c .turn .result .next) (c .before .before .before .before .before .before .before .before .before .before .before .loop .answers) (c .before .before .before .before .before .before .before .before .before .before .before .loop .to) (c .turn .last .1 .1 .1 .1 .1 .1 .1 .0) (c .turn .result .end)
 other c =
     let l = c .before .before .before .before .before .before .before .before .before .before .before .loop in
     let x = length-take (length (now (c .before .before .before .before .before .before .before .before .before .before .before .before .before .before .before .before .before .before .args .tape)) - (l .at + 1)) (drop (l .at + 1) (now (c .before .before .before .before .before .before .before .before .before .before .before .before .before .before .before .before .before .before .args .tape))) in
     let y = length-drop (l .at + 1) (now (c .before .before .before .before .before .before .before .before .before .before .before .before .before .before .before .before .before .before .args .tape)) in
-    c .turn .ensures (l .bands) (l .boxes) _ (l .inv .2) (l .inv .3) (c .before .before .before .before .before .before .before .read-record .ensures) (omega (arith, c .before .before .before .before .before .before .before .before .before .before .loop-test .taken))
+    c .turn .ensures (l .bands) (l .boxes) _ (l .inv .1) (l .inv .2) (c .before .before .before .before .before .before .before .read-record .ensures) (omega (arith, c .before .before .before .before .before .before .before .before .before .before .loop-test .taken))
 
 new-requires : tie.Need-new-requires Inv-loop2 μ-loop2 Inv-loop3 μ-loop3 Inv-loop4 μ-loop4 Inv-loop5 μ-loop5 Inv-loop μ-loop
 new-requires c κs = search needs
@@ -134,7 +134,7 @@ fresh-head-requires c κs = search needs
 loop-holds : tie.Need-loop-holds Inv-loop2 μ-loop2 Inv-loop3 μ-loop3 Inv-loop4 μ-loop4 Inv-loop5 μ-loop5 Inv-loop μ-loop
 loop-holds c =
     let n = c .before .before .before .new .ensures in
-    (going-fresh _ _ _ _ _ _ (c .fresh-head .ensures) (c .before .before .before .before .before .before .pre .0), length-replicate {A = ℕ} 80 0, bands-long n, boxes-long n)
+    (going-fresh _ _ _ _ _ (c .fresh-head .ensures) (c .before .before .before .before .before .before .pre), bands-long n, boxes-long n)
 
 shared-slice-read-kind : tie.Need-shared-slice-read-kind Inv-loop2 μ-loop2 Inv-loop3 μ-loop3 Inv-loop4 μ-loop4 Inv-loop5 μ-loop5 Inv-loop μ-loop
 shared-slice-read-kind c = omega arith
@@ -214,42 +214,25 @@ mul-last c = omega arith
 array-copy-out-last : tie.Need-array-copy-out-last Inv-loop2 μ-loop2 Inv-loop3 μ-loop3 Inv-loop4 μ-loop4 Inv-loop5 μ-loop5 Inv-loop μ-loop
 array-copy-out-last c = omega arith
 
-slice-aggregate-found-line : tie.Need-slice-aggregate-found-line Inv-loop2 μ-loop2 Inv-loop3 μ-loop3 Inv-loop4 μ-loop4 Inv-loop5 μ-loop5 Inv-loop μ-loop
-slice-aggregate-found-line c = search needs
-
 found-line-requires : tie.Need-found-line-requires Inv-loop2 μ-loop2 Inv-loop3 μ-loop3 Inv-loop4 μ-loop4 Inv-loop5 μ-loop5 Inv-loop μ-loop
-found-line-requires c κs = (omega (arith, c .before .before .before .before .before .before .before .before .before .before .before .before .before .before .before .before .before .before .before .loop .inv .1), sym (c .before .before .before .before .before .before .before .before .before .before .before .before .before .before .asking .ensures .0) ∙ c .before .before .before .before .before .before .before .before .before .before .before .before .before .if1 .taken, c .before .before .before .before .before .before .before .before .before .before .before .before .before .before .asking .ensures .1)
-
-slice-aggregate-put-line : tie.Need-slice-aggregate-put-line Inv-loop2 μ-loop2 Inv-loop3 μ-loop3 Inv-loop4 μ-loop4 Inv-loop5 μ-loop5 Inv-loop μ-loop
-slice-aggregate-put-line c = search needs
-
-put-line-requires : tie.Need-put-line-requires Inv-loop2 μ-loop2 Inv-loop3 μ-loop3 Inv-loop4 μ-loop4 Inv-loop5 μ-loop5 Inv-loop μ-loop
-put-line-requires c κs = let t = question (c .before .before .before) _ refl in (going-room _ _ _ (c .before .before .before .before .before .before .before .before .before .before .before .before .before .before .before .before .before .before .before .before .before .before .before .loop .inv .0) (c .before .before .before .before .before .before .before .before .before .before .before .before .before .before .before .before .before .before .before .before .before .before .loop-test .taken) t (c .before .before .before .before .before .before .before .before .before .before .before .before .before .before .before .before .before .before .before .before .before .before .before .before .before .before .before .before .before .before .pre .1), t .fits)
-
-add-to : tie.Need-add-to Inv-loop2 μ-loop2 Inv-loop3 μ-loop3 Inv-loop4 μ-loop4 Inv-loop5 μ-loop5 Inv-loop μ-loop
-add-to c =
-    let l = c .before .before .before .before .before .before .before .before .before .before .before .before .before .before .before .before .before .before .before .before .before .before .before .before .before .before .loop in
-    let t = question (c .before .before .before .before .before .before) _ refl in
-    omega (arith, c .before .before .before .before .before .before .before .before .before .before .before .before .before .before .before .before .before .before .before .before .before .before .before .before .before .before .before .before .before .before .before .before .before .pre .0, l .inv .0 .few, l .inv .0 .inside, t .fits, c .before .before .before .before .before .before .found-line .kept .1 .1 .1 .1 .1 .1 .1 .0, l .inv .1)
+found-line-requires c κs = (omega (arith, c .before .before .before .before .before .before .before .before .before .before .before .before .before .before .before .before .before .before .before .loop .inv .0 .few, c .before .before .before .before .before .before .before .before .before .before .before .before .before .before .before .before .before .before .loop-test .taken, c .before .before .before .before .before .before .before .before .before .before .before .before .before .before .before .before .before .before .before .before .before .before .before .before .before .before .pre), sym (c .before .before .before .before .before .before .before .before .before .before .before .before .before .before .asking .ensures .0) ∙ c .before .before .before .before .before .before .before .before .before .before .before .before .before .if1 .taken, c .before .before .before .before .before .before .before .before .before .before .before .before .before .before .asking .ensures .1)
 
 add-at : tie.Need-add-at Inv-loop2 μ-loop2 Inv-loop3 μ-loop3 Inv-loop4 μ-loop4 Inv-loop5 μ-loop5 Inv-loop μ-loop
-add-at c = omega (arith, c .before .before .before .before .before .before .before .before .before .before .before .before .before .before .before .before .before .before .before .before .before .before .before .before .before .before .loop .inv .0 .inside, c .before .before .before .before .before .before .before .before .before .before .before .before .before .before .before .before .before .before .before .before .before .before .before .before .before .before .before .before .before .before .before .before .before .pre .0)
+add-at c = omega (arith, c .before .before .before .before .before .before .before .before .before .before .before .before .before .before .before .before .before .before .before .before .before .before .loop .inv .0 .inside, c .before .before .before .before .before .before .before .before .before .before .before .before .before .before .before .before .before .before .before .before .before .before .before .before .before .before .before .before .before .pre)
 
 body-len-requires : tie.Need-body-len-requires Inv-loop2 μ-loop2 Inv-loop3 μ-loop3 Inv-loop4 μ-loop4 Inv-loop5 μ-loop5 Inv-loop μ-loop
 body-len-requires c κs = search needs
 
 add-at-2 : tie.Need-add-at-2 Inv-loop2 μ-loop2 Inv-loop3 μ-loop3 Inv-loop4 μ-loop4 Inv-loop5 μ-loop5 Inv-loop μ-loop
-add-at-2 c = omega (arith, body-short (getD (now (c .before .before .before .before .before .before .before .before .before .before .before .before .before .before .before .before .before .before .before .before .before .before .before .before .before .before .before .before .before .before .before .before .before .before .args .tape)) (c .before .before .before .before .before .before .before .before .before .before .before .before .before .before .before .before .before .before .before .before .before .before .before .before .before .before .before .loop .at) 0), c .body-len .ensures, c .before .before .before .before .before .before .before .before .before .before .before .before .before .before .before .before .before .before .before .before .before .before .before .before .before .before .before .loop .inv .0 .inside, c .before .before .before .before .before .before .before .before .before .before .before .before .before .before .before .before .before .before .before .before .before .before .before .before .before .before .before .before .before .before .before .before .before .before .pre .0)
+add-at-2 c = omega (arith, body-short (getD (now (c .before .before .before .before .before .before .before .before .before .before .before .before .before .before .before .before .before .before .before .before .before .before .before .before .before .before .before .before .before .before .args .tape)) (c .before .before .before .before .before .before .before .before .before .before .before .before .before .before .before .before .before .before .before .before .before .before .before .loop .at) 0), c .body-len .ensures, c .before .before .before .before .before .before .before .before .before .before .before .before .before .before .before .before .before .before .before .before .before .before .before .loop .inv .0 .inside, c .before .before .before .before .before .before .before .before .before .before .before .before .before .before .before .before .before .before .before .before .before .before .before .before .before .before .before .before .before .before .pre)
 
 loop-less : tie.Need-loop-less Inv-loop2 μ-loop2 Inv-loop3 μ-loop3 Inv-loop4 μ-loop4 Inv-loop5 μ-loop5 Inv-loop μ-loop
-loop-less c = let t = question (c .before .before .before .before .before .before .before) _ (c .body-len .ensures) in omega (arith, c .before .before .before .before .before .before .before .before .before .before .before .before .before .before .before .before .before .before .before .before .before .before .before .before .before .before .loop-test .taken, t .on)
+loop-less c = let t = question (c .before .before .before) _ (c .body-len .ensures) in omega (arith, c .before .before .before .before .before .before .before .before .before .before .before .before .before .before .before .before .before .before .before .before .before .before .loop-test .taken, t .on)
 
 loop-again : tie.Need-loop-again Inv-loop2 μ-loop2 Inv-loop3 μ-loop3 Inv-loop4 μ-loop4 Inv-loop5 μ-loop5 Inv-loop μ-loop
 loop-again c =
-    let l = c .before .before .before .before .before .before .before .before .before .before .before .before .before .before .before .before .before .before .before .before .before .before .before .before .before .before .before .loop in
-    let t = question (c .before .before .before .before .before .before .before) _ (c .body-len .ensures) in
-    let p = c .before .before .before .put-line in
-    (going-more _ _ _ (l .inv .0) (c .before .before .before .before .before .before .before .before .before .before .before .before .before .before .before .before .before .before .before .before .before .before .before .before .before .before .loop-test .taken) t (p .kept .0) (p .ensures), c .before .before .before .before .before .before .before .found-line .kept .1 .1 .1 .1 .1 .1 .1 .0 ∙ l .inv .1, l .inv .2, l .inv .3)
+    let l = c .before .before .before .before .before .before .before .before .before .before .before .before .before .before .before .before .before .before .before .before .before .before .before .loop in
+    (going-more _ _ (l .inv .0) (c .before .before .before .before .before .before .before .before .before .before .before .before .before .before .before .before .before .before .before .before .before .before .loop-test .taken) (question (c .before .before .before) _ (c .body-len .ensures)), l .inv .1, l .inv .2)
 
 placing-requires : tie.Need-placing-requires Inv-loop2 μ-loop2 Inv-loop3 μ-loop3 Inv-loop4 μ-loop4 Inv-loop5 μ-loop5 Inv-loop μ-loop
 placing-requires c κs = search needs
@@ -267,7 +250,7 @@ mul-if7 : tie.Need-mul-if7 Inv-loop2 μ-loop2 Inv-loop3 μ-loop3 Inv-loop4 μ-lo
 mul-if7 c = let h = end-in (c) in let k = places (c .before .before .before .before .before .before .before) .admits .few in omega (arith, c .before .loop4 .inv .high)
 
 element-copy-out-if7 : tie.Need-element-copy-out-if7 Inv-loop2 μ-loop2 Inv-loop3 μ-loop3 Inv-loop4 μ-loop4 Inv-loop5 μ-loop5 Inv-loop μ-loop
-element-copy-out-if7 c = let h = end-in (c) in let k = places (c .before .before .before .before .before .before .before) .admits .few in omega (arith, c .before .loop4 .inv .high, c .before .before .before .before .before .before .before .before .before .before .before .before .before .before .before .before .loop .inv .2)
+element-copy-out-if7 c = let h = end-in (c) in let k = places (c .before .before .before .before .before .before .before) .admits .few in omega (arith, c .before .loop4 .inv .high, c .before .before .before .before .before .before .before .before .before .before .before .before .before .before .before .before .loop .inv .1)
 
 sub-e : tie.Need-sub-e Inv-loop2 μ-loop2 Inv-loop3 μ-loop3 Inv-loop4 μ-loop4 Inv-loop5 μ-loop5 Inv-loop μ-loop
 sub-e c = omega (arith, c .before .loop4-test .taken)
@@ -285,7 +268,7 @@ mul-last-2 : tie.Need-mul-last-2 Inv-loop2 μ-loop2 Inv-loop3 μ-loop3 Inv-loop4
 mul-last-2 c = omega (arith, places (c .before .before .before .before .before .before .before .before) .admits .few, c .last-of2 .ensures)
 
 array-copy-out-last-2 : tie.Need-array-copy-out-last-2 Inv-loop2 μ-loop2 Inv-loop3 μ-loop3 Inv-loop4 μ-loop4 Inv-loop5 μ-loop5 Inv-loop μ-loop
-array-copy-out-last-2 c = omega (arith, places (c .before .before .before .before .before .before .before .before) .admits .few, c .last-of2 .ensures, c .before .before .before .before .before .before .before .before .before .before .before .before .before .before .before .before .before .loop .inv .2)
+array-copy-out-last-2 c = omega (arith, places (c .before .before .before .before .before .before .before .before) .admits .few, c .last-of2 .ensures, c .before .before .before .before .before .before .before .before .before .before .before .before .before .before .before .before .before .loop .inv .1)
 
 placed-requires-2 : tie.Need-placed-requires-2 Inv-loop2 μ-loop2 Inv-loop3 μ-loop3 Inv-loop4 μ-loop4 Inv-loop5 μ-loop5 Inv-loop μ-loop
 placed-requires-2 c κs = search needs
@@ -321,7 +304,7 @@ mul-b-2 : tie.Need-mul-b-2 Inv-loop2 μ-loop2 Inv-loop3 μ-loop3 Inv-loop4 μ-lo
 mul-b-2 c = let h = room (c .before .before .before .before .before) .1 in omega (arith, c .source .ensures .1, c .before .before .before .loop5 .inv .high, c .before .if9 .taken)
 
 array-copy-out-b-2 : tie.Need-array-copy-out-b-2 Inv-loop2 μ-loop2 Inv-loop3 μ-loop3 Inv-loop4 μ-loop4 Inv-loop5 μ-loop5 Inv-loop μ-loop
-array-copy-out-b-2 c = let h = room (c .before .before .before .before .before) .1 in omega (arith, c .source .ensures .1, c .before .before .before .loop5 .inv .high, c .before .before .before .loop5 .inv .made .long, c .before .before .before .before .before .before .before .before .before .before .before .before .before .before .before .before .before .before .before .before .before .before .before .before .before .before .before .before .before .loop .inv .2, c .before .if9 .taken)
+array-copy-out-b-2 c = let h = room (c .before .before .before .before .before) .1 in omega (arith, c .source .ensures .1, c .before .before .before .loop5 .inv .high, c .before .before .before .loop5 .inv .made .long, c .before .before .before .before .before .before .before .before .before .before .before .before .before .before .before .before .before .before .before .before .before .before .before .before .before .before .before .before .before .loop .inv .1, c .before .if9 .taken)
 
 shaped-requires : tie.Need-shaped-requires Inv-loop2 μ-loop2 Inv-loop3 μ-loop3 Inv-loop4 μ-loop4 Inv-loop5 μ-loop5 Inv-loop μ-loop
 shaped-requires c κs = search needs
@@ -330,7 +313,7 @@ mul-bands : tie.Need-mul-bands Inv-loop2 μ-loop2 Inv-loop3 μ-loop3 Inv-loop4 �
 mul-bands c = let h = room (c .before .before .before .before .before .before .before) .1 in omega (arith, c .before .before .before .before .before .loop5 .inv .high, c .before .before .before .if9 .taken)
 
 array-set-from-bands : tie.Need-array-set-from-bands Inv-loop2 μ-loop2 Inv-loop3 μ-loop3 Inv-loop4 μ-loop4 Inv-loop5 μ-loop5 Inv-loop μ-loop
-array-set-from-bands c = let h = room (c .before .before .before .before .before .before .before) .1 in omega (arith, c .before .before .before .before .before .loop5 .inv .high, c .before .before .before .before .before .loop5 .inv .made .long, c .before .before .before .before .before .before .before .before .before .before .before .before .before .before .before .before .before .before .before .before .before .before .before .before .before .before .before .before .before .before .before .loop .inv .2, c .before .before .before .if9 .taken)
+array-set-from-bands c = let h = room (c .before .before .before .before .before .before .before) .1 in omega (arith, c .before .before .before .before .before .loop5 .inv .high, c .before .before .before .before .before .loop5 .inv .made .long, c .before .before .before .before .before .before .before .before .before .before .before .before .before .before .before .before .before .before .before .before .before .before .before .before .before .before .before .before .before .before .before .loop .inv .1, c .before .before .before .if9 .taken)
 
 loop5-less : tie.Need-loop5-less Inv-loop2 μ-loop2 Inv-loop3 μ-loop3 Inv-loop4 μ-loop4 Inv-loop5 μ-loop5 Inv-loop μ-loop
 loop5-less c = omega (arith, c .before .before .before .if9 .taken)
@@ -339,85 +322,50 @@ loop5-again : tie.Need-loop5-again Inv-loop2 μ-loop2 Inv-loop3 μ-loop3 Inv-loo
 loop5-again c =
     let l = c .before .before .before .before .before .loop5 in
     let h = room (c .before .before .before .before .before .before .before) .1 in
-    writing-next _ _ _ (l .bands) (l .j) (l .inv) (omega (arith, h, c .before .before .before .before .before .before .before .before .before .before .before .before .before .before .before .before .before .before .before .before .before .before .before .before .before .before .before .before .before .before .before .loop .inv .2)) (c .before .before .before .if9 .taken) _ (c .before .before .source .ensures) _ (c .shaped .ensures)
+    writing-next _ _ _ (l .bands) (l .j) (l .inv) (omega (arith, h, c .before .before .before .before .before .before .before .before .before .before .before .before .before .before .before .before .before .before .before .before .before .before .before .before .before .before .before .before .before .before .before .loop .inv .1)) (c .before .before .before .if9 .taken) _ (c .before .before .source .ensures) _ (c .shaped .ensures)
 
 mul-boxes : tie.Need-mul-boxes Inv-loop2 μ-loop2 Inv-loop3 μ-loop3 Inv-loop4 μ-loop4 Inv-loop5 μ-loop5 Inv-loop μ-loop
 mul-boxes c = omega (arith, room (c .before .before .before .before .before) .2)
 
 array-set-from-boxes : tie.Need-array-set-from-boxes Inv-loop2 μ-loop2 Inv-loop3 μ-loop3 Inv-loop4 μ-loop4 Inv-loop5 μ-loop5 Inv-loop μ-loop
-array-set-from-boxes c = omega (arith, room (c .before .before .before .before .before) .2, c .before .before .before .before .before .before .before .before .before .before .before .before .before .before .before .before .before .before .before .before .before .before .before .before .before .before .before .before .before .loop .inv .3)
-
-slice-aggregate-place-line : tie.Need-slice-aggregate-place-line Inv-loop2 μ-loop2 Inv-loop3 μ-loop3 Inv-loop4 μ-loop4 Inv-loop5 μ-loop5 Inv-loop μ-loop
-slice-aggregate-place-line c = let h = c .before .before .before .before .before .before .before .before .before .before .before .before .before .before .before .before .before .before .before .before .before .before .before .before .before .loop .inv .1 in search needs
+array-set-from-boxes c = omega (arith, room (c .before .before .before .before .before) .2, c .before .before .before .before .before .before .before .before .before .before .before .before .before .before .before .before .before .before .before .before .before .before .before .before .before .before .before .before .before .loop .inv .2)
 
 place-line-requires : tie.Need-place-line-requires Inv-loop2 μ-loop2 Inv-loop3 μ-loop3 Inv-loop4 μ-loop4 Inv-loop5 μ-loop5 Inv-loop μ-loop
-place-line-requires c κs = omega (arith, c .before .before .before .before .before .before .before .before .before .before .before .before .before .before .before .before .before .before .before .before .before .before .before .before .before .loop .inv .1)
-
-slice-aggregate-put-line-2 : tie.Need-slice-aggregate-put-line-2 Inv-loop2 μ-loop2 Inv-loop3 μ-loop3 Inv-loop4 μ-loop4 Inv-loop5 μ-loop5 Inv-loop μ-loop
-slice-aggregate-put-line-2 c = search needs
-
-put-line-requires-2 : tie.Need-put-line-requires-2 Inv-loop2 μ-loop2 Inv-loop3 μ-loop3 Inv-loop4 μ-loop4 Inv-loop5 μ-loop5 Inv-loop μ-loop
-put-line-requires-2 c κs = let t = placement (c .before .before .before) _ refl in (going-room _ _ _ (c .before .before .before .before .before .before .before .before .before .before .before .before .before .before .before .before .before .before .before .before .before .before .before .before .before .before .before .before .before .loop .inv .0) (c .before .before .before .before .before .before .before .before .before .before .before .before .before .before .before .before .before .before .before .before .before .before .before .before .before .before .before .before .loop-test .taken) t (c .before .before .before .before .before .before .before .before .before .before .before .before .before .before .before .before .before .before .before .before .before .before .before .before .before .before .before .before .before .before .before .before .before .before .before .before .pre .1), t .fits)
-
-add-to-2 : tie.Need-add-to-2 Inv-loop2 μ-loop2 Inv-loop3 μ-loop3 Inv-loop4 μ-loop4 Inv-loop5 μ-loop5 Inv-loop μ-loop
-add-to-2 c =
-    let l = c .before .before .before .before .before .before .before .before .before .before .before .before .before .before .before .before .before .before .before .before .before .before .before .before .before .before .before .before .before .before .before .before .loop in
-    let t = placement (c .before .before .before .before .before .before) _ refl in
-    omega (arith, c .before .before .before .before .before .before .before .before .before .before .before .before .before .before .before .before .before .before .before .before .before .before .before .before .before .before .before .before .before .before .before .before .before .before .before .before .before .before .before .pre .0, l .inv .0 .few, l .inv .0 .inside, t .fits, c .before .before .before .before .before .before .place-line .kept .0, l .inv .1)
+place-line-requires c κs = omega (arith, c .before .before .before .before .before .before .before .before .before .before .before .before .before .before .before .before .before .before .before .before .before .before .before .before .before .loop .inv .0 .few, c .before .before .before .before .before .before .before .before .before .before .before .before .before .before .before .before .before .before .before .before .before .before .before .before .loop-test .taken, c .before .before .before .before .before .before .before .before .before .before .before .before .before .before .before .before .before .before .before .before .before .before .before .before .before .before .before .before .before .before .before .before .pre)
 
 add-at-3 : tie.Need-add-at-3 Inv-loop2 μ-loop2 Inv-loop3 μ-loop3 Inv-loop4 μ-loop4 Inv-loop5 μ-loop5 Inv-loop μ-loop
-add-at-3 c = omega (arith, c .before .before .before .before .before .before .before .before .before .before .before .before .before .before .before .before .before .before .before .before .before .before .before .before .before .before .before .before .before .before .before .before .loop .inv .0 .inside, c .before .before .before .before .before .before .before .before .before .before .before .before .before .before .before .before .before .before .before .before .before .before .before .before .before .before .before .before .before .before .before .before .before .before .before .before .before .before .before .pre .0)
+add-at-3 c = omega (arith, c .before .before .before .before .before .before .before .before .before .before .before .before .before .before .before .before .before .before .before .before .before .before .before .before .before .before .before .before .loop .inv .0 .inside, c .before .before .before .before .before .before .before .before .before .before .before .before .before .before .before .before .before .before .before .before .before .before .before .before .before .before .before .before .before .before .before .before .before .before .before .pre)
 
 body-len-requires-2 : tie.Need-body-len-requires-2 Inv-loop2 μ-loop2 Inv-loop3 μ-loop3 Inv-loop4 μ-loop4 Inv-loop5 μ-loop5 Inv-loop μ-loop
 body-len-requires-2 c κs = search needs
 
 add-at-4 : tie.Need-add-at-4 Inv-loop2 μ-loop2 Inv-loop3 μ-loop3 Inv-loop4 μ-loop4 Inv-loop5 μ-loop5 Inv-loop μ-loop
-add-at-4 c = omega (arith, body-short (getD (now (c .before .before .before .before .before .before .before .before .before .before .before .before .before .before .before .before .before .before .before .before .before .before .before .before .before .before .before .before .before .before .before .before .before .before .before .before .before .before .before .before .args .tape)) (c .before .before .before .before .before .before .before .before .before .before .before .before .before .before .before .before .before .before .before .before .before .before .before .before .before .before .before .before .before .before .before .before .before .loop .at) 0), c .body-len2 .ensures, c .before .before .before .before .before .before .before .before .before .before .before .before .before .before .before .before .before .before .before .before .before .before .before .before .before .before .before .before .before .before .before .before .before .loop .inv .0 .inside, c .before .before .before .before .before .before .before .before .before .before .before .before .before .before .before .before .before .before .before .before .before .before .before .before .before .before .before .before .before .before .before .before .before .before .before .before .before .before .before .before .pre .0)
+add-at-4 c = omega (arith, body-short (getD (now (c .before .before .before .before .before .before .before .before .before .before .before .before .before .before .before .before .before .before .before .before .before .before .before .before .before .before .before .before .before .before .before .before .before .before .before .before .args .tape)) (c .before .before .before .before .before .before .before .before .before .before .before .before .before .before .before .before .before .before .before .before .before .before .before .before .before .before .before .before .before .loop .at) 0), c .body-len2 .ensures, c .before .before .before .before .before .before .before .before .before .before .before .before .before .before .before .before .before .before .before .before .before .before .before .before .before .before .before .before .before .loop .inv .0 .inside, c .before .before .before .before .before .before .before .before .before .before .before .before .before .before .before .before .before .before .before .before .before .before .before .before .before .before .before .before .before .before .before .before .before .before .before .before .pre)
 
 loop-less-2 : tie.Need-loop-less-2 Inv-loop2 μ-loop2 Inv-loop3 μ-loop3 Inv-loop4 μ-loop4 Inv-loop5 μ-loop5 Inv-loop μ-loop
-loop-less-2 c = let t = placement (c .before .before .before .before .before .before .before) _ (c .body-len2 .ensures) in omega (arith, c .before .before .before .before .before .before .before .before .before .before .before .before .before .before .before .before .before .before .before .before .before .before .before .before .before .before .before .before .before .before .before .before .loop-test .taken, t .on)
+loop-less-2 c = let t = placement (c .before .before .before) _ (c .body-len2 .ensures) in omega (arith, c .before .before .before .before .before .before .before .before .before .before .before .before .before .before .before .before .before .before .before .before .before .before .before .before .before .before .before .before .loop-test .taken, t .on)
 
 loop-again-2 : tie.Need-loop-again-2 Inv-loop2 μ-loop2 Inv-loop3 μ-loop3 Inv-loop4 μ-loop4 Inv-loop5 μ-loop5 Inv-loop μ-loop
 loop-again-2 c =
-    let l = c .before .before .before .before .before .before .before .before .before .before .before .before .before .before .before .before .before .before .before .before .before .before .before .before .before .before .before .before .before .before .before .before .before .loop in
-    let t = placement (c .before .before .before .before .before .before .before) _ (c .body-len2 .ensures) in
-    let p = c .before .before .before .put-line2 in
-    let d = done (c .before .before .before .before .before .before .before .before .before) in
-    (going-more _ _ _ (l .inv .0) (c .before .before .before .before .before .before .before .before .before .before .before .before .before .before .before .before .before .before .before .before .before .before .before .before .before .before .before .before .before .before .before .before .loop-test .taken) t (p .kept .0) (p .ensures), c .before .before .before .before .before .before .before .place-line .kept .0 ∙ l .inv .1, d .1, d .2)
-
-slice-aggregate-turn : tie.Need-slice-aggregate-turn Inv-loop2 μ-loop2 Inv-loop3 μ-loop3 Inv-loop4 μ-loop4 Inv-loop5 μ-loop5 Inv-loop μ-loop
-slice-aggregate-turn c = search needs
+    let d = done (c .before .before .before .before .before) in
+    (going-more _ _ (c .before .before .before .before .before .before .before .before .before .before .before .before .before .before .before .before .before .before .before .before .before .before .before .before .before .before .before .before .before .loop .inv .0) (c .before .before .before .before .before .before .before .before .before .before .before .before .before .before .before .before .before .before .before .before .before .before .before .before .before .before .before .before .loop-test .taken) (placement (c .before .before .before) _ (c .body-len2 .ensures)), d .1, d .2)
 
 turn-requires : tie.Need-turn-requires Inv-loop2 μ-loop2 Inv-loop3 μ-loop3 Inv-loop4 μ-loop4 Inv-loop5 μ-loop5 Inv-loop μ-loop
-turn-requires c κs = (c .before .before .before .before .before .before .before .before .before .before .loop .inv .1, c .before .before .before .before .before .before .before .before .before .loop-test .taken, c .before .before .before .before .before .before .before .before .before .before .before .before .before .before .before .before .before .pre .0, sym (c .before .before .before .before .before .asking .ensures .0) ∙ c .before .before .before .before .if1 .left, c .before .before .before .placing .ensures .1 (c .before .if6 .left))
-
-slice-aggregate-put-line-3 : tie.Need-slice-aggregate-put-line-3 Inv-loop2 μ-loop2 Inv-loop3 μ-loop3 Inv-loop4 μ-loop4 Inv-loop5 μ-loop5 Inv-loop μ-loop
-slice-aggregate-put-line-3 c = search needs
-
-put-line-requires-3 : tie.Need-put-line-requires-3 Inv-loop2 μ-loop2 Inv-loop3 μ-loop3 Inv-loop4 μ-loop4 Inv-loop5 μ-loop5 Inv-loop μ-loop
-put-line-requires-3 c κs = let t = other (c .before .before .before .before) in (going-room _ _ _ (c .before .before .before .before .before .before .before .before .before .before .before .before .before .before .before .loop .inv .0) (c .before .before .before .before .before .before .before .before .before .before .before .before .before .before .loop-test .taken) t (c .before .before .before .before .before .before .before .before .before .before .before .before .before .before .before .before .before .before .before .before .before .before .pre .1), t .fits)
-
-add-to-3 : tie.Need-add-to-3 Inv-loop2 μ-loop2 Inv-loop3 μ-loop3 Inv-loop4 μ-loop4 Inv-loop5 μ-loop5 Inv-loop μ-loop
-add-to-3 c =
-    let l = c .before .before .before .before .before .before .before .before .before .before .before .before .before .before .before .before .before .before .before .loop in
-    let t = other (c .before .before .before .before .before .before .before .before) in
-    omega (arith, c .before .before .before .before .before .before .before .before .before .before .before .before .before .before .before .before .before .before .before .before .before .before .before .before .before .before .pre .0, l .inv .0 .few, l .inv .0 .inside, t .fits, c .before .before .before .before .before .before .before .before .turn .kept .1 .1 .1 .1 .1 .1 .1 .0, l .inv .1)
+turn-requires c κs = (omega (arith, c .before .before .before .before .before .before .before .before .before .before .loop .inv .0 .few, c .before .before .before .before .before .before .before .before .before .loop-test .taken, c .before .before .before .before .before .before .before .before .before .before .before .before .before .before .before .before .before .pre), c .before .before .before .before .before .before .before .before .before .loop-test .taken, c .before .before .before .before .before .before .before .before .before .before .before .before .before .before .before .before .before .pre, sym (c .before .before .before .before .before .asking .ensures .0) ∙ c .before .before .before .before .if1 .left, c .before .before .before .placing .ensures .1 (c .before .if6 .left))
 
 loop-less-3 : tie.Need-loop-less-3 Inv-loop2 μ-loop2 Inv-loop3 μ-loop3 Inv-loop4 μ-loop4 Inv-loop5 μ-loop5 Inv-loop μ-loop
-loop-less-3 c = let t = other (c .before .before .before .before .before .before .before .before) in omega (arith, c .before .before .before .before .before .before .before .before .before .before .before .before .before .before .before .before .before .before .loop-test .taken, t .on)
+loop-less-3 c = let t = other (c .before .before .before) in omega (arith, c .before .before .before .before .before .before .before .before .before .before .before .before .before .loop-test .taken, t .on)
 
 loop-again-3 : tie.Need-loop-again-3 Inv-loop2 μ-loop2 Inv-loop3 μ-loop3 Inv-loop4 μ-loop4 Inv-loop5 μ-loop5 Inv-loop μ-loop
 loop-again-3 c =
-    let l = c .before .before .before .before .before .before .before .before .before .before .before .before .before .before .before .before .before .before .before .loop in
-    let t = other (c .before .before .before .before .before .before .before .before) in
-    let p = c .before .before .before .put-line3 in
-    (going-more _ _ _ (l .inv .0) (c .before .before .before .before .before .before .before .before .before .before .before .before .before .before .before .before .before .before .loop-test .taken) t (p .kept .0) (p .ensures), c .before .before .before .before .before .before .before .before .turn .kept .1 .1 .1 .1 .1 .1 .1 .0 ∙ l .inv .1, l .inv .2, l .inv .3)
+    let l = c .before .before .before .before .before .before .before .before .before .before .before .before .before .before .loop in
+    (going-more _ _ (l .inv .0) (c .before .before .before .before .before .before .before .before .before .before .before .before .before .loop-test .taken) (other (c .before .before .before)), l .inv .1, l .inv .2)
 
 same-length : tie.Need-same-length Inv-loop2 μ-loop2 Inv-loop3 μ-loop3 Inv-loop4 μ-loop4 Inv-loop5 μ-loop5 Inv-loop μ-loop
-same-length c = c .before .loop .inv .0 .long
+same-length c = c .before .loop .inv .0 .put .long
 
 returns : tie.Need-returns Inv-loop2 μ-loop2 Inv-loop3 μ-loop3 Inv-loop4 μ-loop4 Inv-loop5 μ-loop5 Inv-loop μ-loop
-returns c = going-done _ _ _ (c .before .loop .inv .0) (c .loop-test .left) (c .before .before .before .before .before .before .before .before .pre .0)
+returns c = going-done _ _ (c .before .loop .inv .0) (c .loop-test .left) (c .before .before .before .before .before .before .before .before .pre)
 
 pub records-spec : {M : Type 1} → statement M
 records-spec =
@@ -462,11 +410,7 @@ records-spec =
     last-of-requires
     mul-last
     array-copy-out-last
-    slice-aggregate-found-line
     found-line-requires
-    slice-aggregate-put-line
-    put-line-requires
-    add-to
     add-at
     body-len-requires
     add-at-2
@@ -503,21 +447,13 @@ records-spec =
     loop5-again
     mul-boxes
     array-set-from-boxes
-    slice-aggregate-place-line
     place-line-requires
-    slice-aggregate-put-line-2
-    put-line-requires-2
-    add-to-2
     add-at-3
     body-len-requires-2
     add-at-4
     loop-less-2
     loop-again-2
-    slice-aggregate-turn
     turn-requires
-    slice-aggregate-put-line-3
-    put-line-requires-3
-    add-to-3
     loop-less-3
     loop-again-3
     same-length

@@ -13,14 +13,14 @@ enum-known-read c = search needs
 rest-of-requires : tie.Need-rest-of-requires
 rest-of-requires c κs = (omega (arith, c .before .before .before .before .before .pre .0), sym (ap asksOf (c .before .before .read .given .1)) ∙ c .before .before .before .before .before .pre .3)
 
-add-t16 : tie.Need-add-t16
-add-t16 c = search needs
+add-t17 : tie.Need-add-t17
+add-t17 c = search needs
 
 body-len-requires : tie.Need-body-len-requires
 body-len-requires c κs = search needs
 
-add-t18 : tie.Need-add-t18
-add-t18 c = let h = body-short (c .before .before .before .before .before .before .before .before .before .before .args .kind) in omega (arith, c .body-len .ensures, c .before .before .before .before .before .before .before .before .before .before .pre .1, c .before .before .before .before .before .before .before .before .before .before .pre .2)
+add-t19 : tie.Need-add-t19
+add-t19 c = let h = body-short (c .before .before .before .before .before .before .before .before .before .before .args .kind) in omega (arith, c .body-len .ensures, c .before .before .before .before .before .before .before .before .before .before .pre .1, c .before .before .before .before .before .before .before .before .before .before .pre .2)
 
 enum-told : tie.Need-enum-told
 enum-told c = search needs
@@ -32,7 +32,7 @@ same-length : tie.Need-same-length
 same-length c = search needs
 
 returns : tie.Need-returns
-returns c bs xs body a b e h = turned-whole _ _ _ _ (c .before .before .before .before .rest-of .kept .1 .1 .1 .1 .0 ∙ c .before .before .before .before .before .before .before .before .before .before .pre .0) (sym e ∙ c .before .before .before .before .before .before .before .read .given .1) (c .before .before .before .before .rest-of .ensures bs xs a b (of-read (c .before .before .before .before .before .before .before .read .given .1) (c .before .before .before .before .before .before .before .before .before .before .pre .4))) (c .body-len .ensures)
+returns c bs xs body a b e h = turned-whole _ _ _ _ (sym e ∙ c .before .before .before .before .before .before .before .read .given .1) (c .before .before .before .before .rest-of .ensures bs xs a b (of-read (c .before .before .before .before .before .before .before .read .given .1) (c .before .before .before .before .before .before .before .before .before .before .pre .4))) (c .body-len .ensures)
 
 same-length-2 : tie.Need-same-length-2
 same-length-2 c = search needs
@@ -46,9 +46,9 @@ turn-spec =
     (tie.spec
     enum-known-read
     rest-of-requires
-    add-t16
+    add-t17
     body-len-requires
-    add-t18
+    add-t19
     enum-told
     number-line-requires
     same-length
