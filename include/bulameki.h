@@ -74,7 +74,7 @@ extern "C" {
 #define BULAMEKI_VERSION "0.2.0"
 
 /* The deepest stack of a call in bytes, its return address counted: measured, as docs/SPEED.md says. */
-#define BULAMEKI_STACK 4528
+#define BULAMEKI_STACK 4416
 
 enum bulameki_kind {
     BULAMEKI_NEW = 0,
