@@ -16,8 +16,8 @@
        each other, and an unmasked exception ends the program at the first NaN. Linking with -ffast-math is enough to
        change it. Call bulameki_environment() at start-up, in each thread that calls.
      - A tape that holds still. Copy one that can change meanwhile (worn flash, DMA, another thread) to RAM first. A tape
-       of which a byte changes during the call gives any lines or -13; nothing is written past the room even then. In a
-       room of BULAMEKI_ROOM the tape is run once, in a shorter one twice.
+       of which a byte changes during the call gives any lines, or -13 with lines left in the room; nothing is written
+       past the room even then. In a room of BULAMEKI_ROOM the tape is run once, in a shorter one twice.
 
    THE TAPE. A record is one byte of kind, then a body of fixed length. f32 and u16 are little-endian, codes are bytes.
 
