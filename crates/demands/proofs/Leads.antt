@@ -16,7 +16,7 @@ use Rattle.float.specs.declared.search.Reach.{Reach}
 use Rattle.float.specs.declared.search.Spot.{Spot}
 use Rattle.float.specs.Bands.{lead, trail, none}
 use Rattle.float.specs.Fit.{placedAt, fits}
-use Rattle.float.specs.Search.{State, atStart, atEnd, joined, opened, taller, highTurn, joinTurn, endTurn, fitTurn, startTurn, turn, searchFrom}
+use Rattle.float.specs.Search.{Try, State, atStart, atEnd, joined, opened, taller, highTurn, joinTurn, endTurn, fitTurn, startTurn, turn, searchFrom}
 use Rattle.demands.proofs.Laws.{ins-zero}
 use Rattle.demands.proofs.Chain.{Chain, chain-at}
 use Rattle.demands.proofs.Turns.{Ordered, Keeps, search-has}
@@ -24,8 +24,8 @@ use Rattle.demands.proofs.Turns.{Ordered, Keeps, search-has}
 module _ (l : List Segment) (a : Ask) (c : Chain (inf true) l) (q : Num binary32 (a .«cb_lead»)) where
   -- the joined lead inset is a number
   abbrev Good : State → Type 0
-  Good (atStart s e y n) = Unit {0}
-  Good (atEnd s e y n j) = Num binary32 (j .lead)
+  Good (atStart t) = Unit {0}
+  Good (atEnd t j) = Num binary32 (j .lead)
 
   abbrev pub Leads : Spot → Type 0
   Leads p = T (le (a .«cb_lead») (p .inset))
@@ -39,26 +39,28 @@ module _ (l : List Segment) (a : Ask) (c : Chain (inf true) l) (q : Num binary32
   unfolding placedAt
   placed x v = larger-right v q
 
-  end-leads : (s e : ℕ) (y : Float) (n : ℕ) (j : Reach) → Num binary32 (j .lead) → Keeps l a Good Leads (endTurn l a s e y n j)
+  end-leads : (t : Try) (j : Reach) → Num binary32 (j .lead) → Keeps l a Good Leads (endTurn l a t j)
   unfolding endTurn joinTurn highTurn taller
-  end-leads s e y n j v =
+  end-leads t j v =
+      let e = t .end in
       let b = getD l e none in
       let i = joined (a .side) j b in
       let K = Keeps l a Good Leads in
       both K (ltb e (length l))
-      (λ t. let w = joins e j (ltb→lt e (length l) t) v in both K (fits a (i .lead) (i .trail)) (λ u. both K (le (a .height) (taller i b (eqb e s) .height)) (λ z. placed (i .lead) w) (λ z. w)) (λ u. tt))
-      (λ t. placed (j .lead) v)
+      (λ h. let w = joins e j (ltb→lt e (length l) h) v in both K (fits a (i .lead) (i .trail)) (λ u. both K (le (a .height) (taller i b (eqb e (t .start)) .height)) (λ z. placed (i .lead) w) (λ z. w)) (λ u. tt))
+      (λ h. placed (j .lead) v)
 
   turn-leads : (st : State) → Ordered l a st → Good st → Keeps l a Good Leads (turn l a st)
   unfolding startTurn fitTurn
-  turn-leads (atStart s e y n) o g =
+  turn-leads (atStart t) o g =
+      let s = t .start in
       let b = getD l s none in
-      let z = larger y (b .start) in
+      let z = larger (t .y) (b .start) in
       let K = Keeps l a Good Leads in
       both K (ltb s (length l))
-      (λ t. both K (fits a (lead (a .side) b) (trail (a .side) b)) (λ u. end-leads s e z n (opened (a .side) b z) (joins s _ (ltb→lt s (length l) t) (ins-zero .num))) (λ u. tt))
-      (λ t. refl-le q)
-  turn-leads (atEnd s e y n j) o g = end-leads s e y n j g
+      (λ h. both K (fits a (lead (a .side) b) (trail (a .side) b)) (λ u. end-leads _ (opened (a .side) b z) (joins s _ (ltb→lt s (length l) h) (ins-zero .num))) (λ u. tt))
+      (λ h. refl-le q)
+  turn-leads (atEnd t j) o g = end-leads t j g
 
   pub search-leads : (s : ℕ) (y : Float) → s ≤ length l → Leads (searchFrom l a s y)
   search-leads s y h = search-has l a Good Leads turn-leads s y h tt

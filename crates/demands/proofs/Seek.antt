@@ -20,7 +20,7 @@ use Rattle.float.specs.declared.search.Reach.{Reach}
 use Rattle.float.specs.declared.search.Spot.{Spot}
 use Rattle.float.specs.Bands.{other, lead, none}
 use Rattle.float.specs.Fit.{placedAt, fits}
-use Rattle.float.specs.Search.{State, atStart, atEnd, Turn, spot, joined, opened, taller, giveUp, highTurn, joinTurn, endTurn, fitTurn, startTurn, turn, search, searchFrom}
+use Rattle.float.specs.Search.{Try, State, atStart, atEnd, Turn, spot, joined, opened, taller, giveUp, highTurn, joinTurn, endTurn, fitTurn, startTurn, turn, searchFrom}
 use Rattle.demands.proofs.Laws.{k, Val, Ins, zero-k, ins-zero, larger-ins, larger-top, fits-down}
 use Rattle.demands.proofs.Chain.{Chain, chain-at, chain-next}
 use Rattle.demands.proofs.Turns.{Ordered, Keeps, search-has}
@@ -127,8 +127,8 @@ module _ (l : List Segment) (a : Ask) (F : ℕ) (y0 : Float) (H : Count l) where
     tall : Tall s e y (j .height)
 
   abbrev Good : State → Type 0
-  Good (atStart s e y n) = StartOk s e y
-  Good (atEnd s e y n j) = EndOk s e y j
+  Good (atStart t) = StartOk (t .start) (t .end) (t .y)
+  Good (atEnd t j) = EndOk (t .start) (t .end) (t .y) j
 
   abbrev Follow : Turn → Type 0
   Follow = Keeps l a Good Found
@@ -155,17 +155,20 @@ module _ (l : List Segment) (a : Ask) (F : ℕ) (y0 : Float) (H : Count l) where
     next-passed s e h (inl p) = inl (p .0, next-over (other (a .side)) s e h (p .1))
     next-passed s e h (inr p) = inr (p .0, next-over (a .side) s e h (p .1))
 
-    give-up : (s e : ℕ) (y : Float) (n : ℕ) → F ≤ s → s ≤ e → Val y → H .Ok y → k y0 ≤ k y → k y ≤ k (getD l s none .end) → Passed s e → Follow (giveUp s e y n)
-    give-up s e y n i o v v' w x p = record {
+    give-up : (t : Try) → F ≤ t .start → t .start ≤ t .end → Val (t .y) → H .Ok (t .y) → k y0 ≤ k (t .y) → k (t .y) ≤ k (getD l (t .start) none .end) → Passed (t .start) (t .end) → Follow (giveUp t)
+    give-up t i o v v' w x p = record {
       first = omega arith;
       val = v;
       ok = v';
       low = w;
-      upTo = λ (m : suc s < length l). omega (arith, ap k (chain-next (inf true) l s c m), chain-at (inf true) l (suc s) c m .order);
-      passed = next-passed s e o p;
+      upTo = λ (m : suc (t .start) < length l). omega (arith, ap k (chain-next (inf true) l (t .start) c m), chain-at (inf true) l (suc (t .start)) c m .order);
+      passed = next-passed (t .start) (t .end) o p;
     }
 
     module _ (s e : ℕ) (y : Float) (n : ℕ) (j : Reach) (g : EndOk s e y j) where
+      abbrev here : Try
+      here = record { start = s; end = e; y = y; steps = n }
+
       -- on the side r every band up to the end, the end's own left out, is covered by what covers the joined inset and the end's
       covered : (r : FloatDirection) (x0 x : Float) → Falls r F l ⊎ Held r s e x0 → k (lead r (getD l s none)) ≤ k x0 → k x0 ≤ k x → (e < length l → k (lead r (getD l e none)) ≤ k x) → (i : ℕ) → s ≤ i → i < e → i < length l → k (lead r (getD l i none)) ≤ k x
       covered r x0 x d m h o i u v w = go d
@@ -194,7 +197,7 @@ module _ (l : List Segment) (a : Ask) (F : ℕ) (y0 : Float) (H : Count l) where
       of-trail (inr p) = inl (p .0)
 
       found : (xl xt : Float) → Ins xl → Ins xt → H .Ok xl → H .Ok xt → T (fits a xl xt) → k (j .lead) ≤ k xl → k (j .trail) ≤ k xt → (e < length l → k (lead (a .side) (getD l e none)) ≤ k xl) → (e < length l → k (lead (other (a .side)) (getD l e none)) ≤ k xt)
-          → (e < length l → (z : Float) × H .Has e y z × T (le (a .height) z)) → Found (spot s e y (placedAt a xl) n)
+          → (e < length l → (z : Float) × H .Has e y z × T (le (a .height) z)) → Found (spot here (placedAt a xl))
       unfolding placedAt
       found xl xt v v' w w' t h h' o o' deep = let m = larger-key (v .num) (q .cbLead .num) in record {
         first = g .first;
@@ -317,7 +320,7 @@ module _ (l : List Segment) (a : Ask) (F : ℕ) (y0 : Float) (H : Count l) where
             go (inl p) = inl (p .0, held (other (a .side)) (j .trail) (j' .trail) (p .1) (omega (arith, trail-is)) (omega (arith, trail-is)))
             go (inr p) = inr (p .0, held (a .side) (j .lead) (j' .lead) (p .1) (omega (arith, lead-is)) (omega (arith, lead-is)))
 
-      end-ok : Follow (endTurn l a s e y n j)
+      end-ok : Follow (endTurn l a here j)
       unfolding endTurn joinTurn highTurn taller
       end-ok =
           both Follow (ltb e (length l))
@@ -326,7 +329,7 @@ module _ (l : List Segment) (a : Ask) (F : ℕ) (y0 : Float) (H : Count l) where
           (λ u. both Follow (le (a .height) (taller (j' h) (getD l e none) (eqb e s) .height))
           (λ v. found (j' h .lead) (j' h .trail) (lead' h) (trail' h) (lead-ok' h) (trail-ok' h) u (omega (arith, lead-is h)) (omega (arith, trail-is h)) (λ o. omega (arith, lead-is h)) (λ o. omega (arith, trail-is h)) (λ o. (_, higher h, v)))
           (λ v. went h u _ (higher h)))
-          (λ u. give-up s e y n (g .first) (g .order) (g .val) (g .ok) (g .low) (g .upTo) (failed h u)))
+          (λ u. give-up here (g .first) (g .order) (g .val) (g .ok) (g .low) (g .upTo) (failed h u)))
           (λ t. let h = nltb→le e (length l) t in
           found (j .lead) (j .trail) (g .jl) (g .jt) (g .jl-ok) (g .jt-ok) (g .room) (omega arith) (omega arith) (λ o. absurd (not-suc-le-zero {n = 0} (omega arith))) (λ o. absurd (not-suc-le-zero {n = 0} (omega arith))) (λ o. absurd (not-suc-le-zero {n = 0} (omega arith))))
 
@@ -378,13 +381,15 @@ module _ (l : List Segment) (a : Ask) (F : ℕ) (y0 : Float) (H : Count l) where
 
     turn-ok : (st : State) → Ordered l a st → Good st → Follow (turn l a st)
     unfolding startTurn fitTurn
-    turn-ok (atStart s e y n) o g =
+    turn-ok (atStart t) o g =
+        let s = t .start in
+        let z = larger (t .y) (getD l s none .start) in
         both Follow (ltb s (length l))
-        (λ t. let h = ltb→lt s (length l) t in
+        (λ r. let h = ltb→lt s (length l) r in
         both Follow (fits a (lead (a .side) (getD l s none)) (lead (other (a .side)) (getD l s none)))
-        (λ u. end-ok s e (larger y (getD l s none .start)) n (opened (a .side) (getD l s none) (larger y (getD l s none .start))) (opened-ok s e y (o .0) (o .1) g h u))
-        (λ u. give-up s e y n (g .first) (o .0) (g .val) (g .ok) (g .low) (g .upTo h) (g .passed)))
-        (λ t. let h = nltb→le s (length l) t in record {
+        (λ u. end-ok s (t .end) z (t .steps) (opened (a .side) (getD l s none) z) (opened-ok s (t .end) (t .y) (o .0) (o .1) g h u))
+        (λ u. give-up t (g .first) (o .0) (g .val) (g .ok) (g .low) (g .upTo h) (g .passed)))
+        (λ r. let h = nltb→le s (length l) r in record {
           first = g .first;
           order = o .0;
           last = o .1;
@@ -396,7 +401,7 @@ module _ (l : List Segment) (a : Ask) (F : ℕ) (y0 : Float) (H : Count l) where
           alone = λ o. refl;
           fit = λ o. absurd (not-suc-le-zero {n = 0} (omega arith));
         })
-    turn-ok (atEnd s e y n j) o g = end-ok s e y n j g
+    turn-ok (atEnd t j) o g = end-ok (t .start) (t .end) (t .y) (t .steps) j g
 
     -- from a first band whose end is at or below y0
     pub search-law : (s : ℕ) → F ≤ s → s ≤ length l → Val y0 → H .Ok y0 → (s < length l → k y0 ≤ k (getD l s none .end)) → Falls (a .side) F l ⊎ Falls (other (a .side)) F l → Found (searchFrom l a s y0)

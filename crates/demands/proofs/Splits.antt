@@ -22,7 +22,7 @@ use Rattle.float.specs.declared.search.Reach.{Reach}
 use Rattle.float.specs.declared.search.Spot.{Spot}
 use Rattle.float.specs.Bands.{lead, trail, none, splitAt}
 use Rattle.float.specs.Fit.{fits}
-use Rattle.float.specs.Search.{State, atStart, atEnd, joined, opened, taller, giveUp, highTurn, joinTurn, endTurn, fitTurn, startTurn, turn, searchFrom}
+use Rattle.float.specs.Search.{Try, State, atStart, atEnd, joined, opened, taller, giveUp, highTurn, joinTurn, endTurn, fitTurn, startTurn, turn, searchFrom}
 use Rattle.float.specs.Place.{Made, seed, endOf, belowAll, walked, inside, startedAt, make}
 use Rattle.demands.specs.Runs.{StrictlyIn, StartSplit, EndSplit}
 use Rattle.demands.proofs.Laws.{k}
@@ -66,57 +66,58 @@ pub record Within (b : Segment) (y : Float) : Type 0 where
 
 module _ (l : List Segment) (a : Ask) (c : Chain (inf true) l) where
   abbrev Good : State → Type 0
-  Good (atStart s e y n) = Num binary32 y × (s < length l → (k y ≤ k (getD l s none .start)) ⊎ (k y < k (getD l s none .end)))
-  Good (atEnd s e y n j) = Within (getD l s none) y
+  Good (atStart t) = Num binary32 (t .y) × (t .start < length l → (k (t .y) ≤ k (getD l (t .start) none .start)) ⊎ (k (t .y) < k (getD l (t .start) none .end)))
+  Good (atEnd t j) = Within (getD l (t .start) none) (t .y)
 
   abbrev pub Taken : Spot → Type 0
   Taken p = p .start < length l → Within (getD l (p .start) none) (p .y)
 
   -- the next band starts where this one ends
-  gives-up : (s e : ℕ) (y : Float) (n : ℕ) → Num binary32 y → k y ≤ k (getD l s none .end) → Keeps l a Good Taken (giveUp s e y n)
-  gives-up s e y n v o = (v, λ h. inl (omega (arith, ap k (chain-next (inf true) l s c h))))
+  gives-up : (t : Try) → Num binary32 (t .y) → k (t .y) ≤ k (getD l (t .start) none .end) → Keeps l a Good Taken (giveUp t)
+  gives-up t v o = (v, λ h. inl (omega (arith, ap k (chain-next (inf true) l (t .start) c h))))
 
-  end-in : (s e : ℕ) (y : Float) (n : ℕ) (j : Reach) → s < length l → Within (getD l s none) y → Keeps l a Good Taken (endTurn l a s e y n j)
+  end-in : (t : Try) (j : Reach) → t .start < length l → Within (getD l (t .start) none) (t .y) → Keeps l a Good Taken (endTurn l a t j)
   unfolding endTurn joinTurn highTurn
-  end-in s e y n j h w =
+  end-in t j h w =
+      let e = t .end in
       let b = getD l e none in
       let i = joined (a .side) j b in
       let K = Keeps l a Good Taken in
       both K (ltb e (length l))
-      (λ t. both K (fits a (i .lead) (i .trail))
-      (λ u. both K (le (a .height) (taller i b (eqb e s) .height)) (λ v o. w) (λ v. w))
-      (λ u. gives-up s e y n (w .num) (upTo (w .at))))
-      (λ t o. w)
+      (λ r. both K (fits a (i .lead) (i .trail))
+      (λ u. both K (le (a .height) (taller i b (eqb e (t .start)) .height)) (λ v o. w) (λ v. w))
+      (λ u. gives-up t (w .num) (upTo (w .at))))
+      (λ r o. w)
     where
-      upTo : (k y ≡ k (getD l s none .start)) ⊎ ((k (getD l s none .start) < k y) × (k y < k (getD l s none .end))) → k y ≤ k (getD l s none .end)
-      upTo (inl e) = omega (arith, chain-at (inf true) l s c h .order)
+      upTo : (k (t .y) ≡ k (getD l (t .start) none .start)) ⊎ ((k (getD l (t .start) none .start) < k (t .y)) × (k (t .y) < k (getD l (t .start) none .end))) → k (t .y) ≤ k (getD l (t .start) none .end)
+      upTo (inl e) = omega (arith, chain-at (inf true) l (t .start) c h .order)
       upTo (inr e) = omega (arith, e .1)
 
   turn-in : (st : State) → Ordered l a st → Good st → Keeps l a Good Taken (turn l a st)
   unfolding startTurn fitTurn
-  turn-in (atStart s e y n) o g =
-      let b = getD l s none in
-      let z = larger y (b .start) in
+  turn-in (atStart t) o g =
+      let b = getD l (t .start) none in
+      let z = larger (t .y) (b .start) in
       let K = Keeps l a Good Taken in
-      both K (ltb s (length l))
-      (λ t. let h = ltb→lt s (length l) t in both K (fits a (lead (a .side) b) (trail (a .side) b)) (λ u. end-in s e z n (opened (a .side) b z) h (raised h (g .1 h))) (λ u. gives-up s e y n (g .0) (upTo h (g .1 h))))
-      (λ t h. absurd (not-suc-le-zero {n = 0} (omega (arith, nltb→le s (length l) t))))
+      both K (ltb (t .start) (length l))
+      (λ r. let h = ltb→lt (t .start) (length l) r in both K (fits a (lead (a .side) b) (trail (a .side) b)) (λ u. end-in _ (opened (a .side) b z) h (raised h (g .1 h))) (λ u. gives-up t (g .0) (upTo h (g .1 h))))
+      (λ r h. absurd (not-suc-le-zero {n = 0} (omega (arith, nltb→le (t .start) (length l) r))))
     where
-      upTo : s < length l → (k y ≤ k (getD l s none .start)) ⊎ (k y < k (getD l s none .end)) → k y ≤ k (getD l s none .end)
-      upTo h (inl e) = omega (arith, chain-at (inf true) l s c h .order)
+      upTo : t .start < length l → (k (t .y) ≤ k (getD l (t .start) none .start)) ⊎ (k (t .y) < k (getD l (t .start) none .end)) → k (t .y) ≤ k (getD l (t .start) none .end)
+      upTo h (inl e) = omega (arith, chain-at (inf true) l (t .start) c h .order)
       upTo h (inr e) = omega arith
 
-      raised : s < length l → (k y ≤ k (getD l s none .start)) ⊎ (k y < k (getD l s none .end)) → Within (getD l s none) (larger y (getD l s none .start))
+      raised : t .start < length l → (k (t .y) ≤ k (getD l (t .start) none .start)) ⊎ (k (t .y) < k (getD l (t .start) none .end)) → Within (getD l (t .start) none) (larger (t .y) (getD l (t .start) none .start))
       raised h e =
-          let v = chain-at (inf true) l s c h .start .num in
+          let v = chain-at (inf true) l (t .start) c h .start .num in
           let m = larger-key (g .0) v in
-          record { num = larger-num (g .0) v; at = go (decLe (k y) (k (getD l s none .start))) m e }
+          record { num = larger-num (g .0) v; at = go (decLe (k (t .y)) (k (getD l (t .start) none .start))) m e }
         where
-          go : Dec (k y ≤ k (getD l s none .start)) → k (larger y (getD l s none .start)) ≡ max (k y) (k (getD l s none .start)) → (k y ≤ k (getD l s none .start)) ⊎ (k y < k (getD l s none .end)) → (k (larger y (getD l s none .start)) ≡ k (getD l s none .start)) ⊎ ((k (getD l s none .start) < k (larger y (getD l s none .start))) × (k (larger y (getD l s none .start)) < k (getD l s none .end)))
+          go : Dec (k (t .y) ≤ k (getD l (t .start) none .start)) → k (larger (t .y) (getD l (t .start) none .start)) ≡ max (k (t .y)) (k (getD l (t .start) none .start)) → (k (t .y) ≤ k (getD l (t .start) none .start)) ⊎ (k (t .y) < k (getD l (t .start) none .end)) → (k (larger (t .y) (getD l (t .start) none .start)) ≡ k (getD l (t .start) none .start)) ⊎ ((k (getD l (t .start) none .start) < k (larger (t .y) (getD l (t .start) none .start))) × (k (larger (t .y) (getD l (t .start) none .start)) < k (getD l (t .start) none .end)))
           go (yes d) m e = inl (omega arith)
           go (no d) m (inl e) = absurd (d e)
           go (no d) m (inr e) = inr (omega arith, omega arith)
-  turn-in (atEnd s e y n j) o g = end-in s e y n j (o .0) g
+  turn-in (atEnd t j) o g = end-in t j (o .0) g
 
   pub start-in : (s : ℕ) (y : Float) → s ≤ length l → Num binary32 y → (s < length l → T (lt y (getD l s none .end))) → Taken (searchFrom l a s y)
   start-in s y h v t = search-has l a Good Taken turn-in s y h (v, λ o. inr (lt→key v (chain-at (inf true) l s c o .end .num) (t o)))

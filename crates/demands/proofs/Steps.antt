@@ -15,7 +15,7 @@ use Rattle.float.specs.declared.search.Spot.{Spot}
 use Rattle.float.specs.Bands.{lead, trail, none}
 use Rattle.float.specs.Page.{Page}
 use Rattle.float.specs.Fit.{fits}
-use Rattle.float.specs.Search.{State, atStart, atEnd, joined, opened, taller, highTurn, joinTurn, endTurn, fitTurn, startTurn, turn, searchFrom}
+use Rattle.float.specs.Search.{Try, State, atStart, atEnd, joined, opened, taller, highTurn, joinTurn, endTurn, fitTurn, startTurn, turn, searchFrom}
 use Rattle.float.specs.Place.{Call, cleaned, askOf, spotOf, place}
 use Rattle.demands.proofs.Turns.{Ordered, Keeps, search-has}
 use Rattle.demands.proofs.First.{first-le}
@@ -23,28 +23,30 @@ use Rattle.demands.proofs.Ways.{place-ways}
 
 module _ (l : List Segment) (a : Ask) where
   abbrev Good : State → Type 0
-  Good (atStart s e y n) = n ≤ s + e
-  Good (atEnd s e y n j) = n ≤ s + e
+  Good (atStart t) = t .steps ≤ t .start + t .end
+  Good (atEnd t j) = t .steps ≤ t .start + t .end
 
   abbrev Few : Spot → Type 0
   Few p = p .steps ≤ length l + length l
 
-  end-few : (s e : ℕ) (y : Float) (n : ℕ) (j : Reach) → s ≤ e → e ≤ length l → n ≤ s + e → Keeps l a Good Few (endTurn l a s e y n j)
+  end-few : (t : Try) (j : Reach) → t .start ≤ t .end → t .end ≤ length l → t .steps ≤ t .start + t .end → Keeps l a Good Few (endTurn l a t j)
   unfolding endTurn joinTurn highTurn
-  end-few s e y n j h i g =
+  end-few t j h i g =
+      let e = t .end in
       let b = getD l e none in
       let o = joined (a .side) j b in
       let K = Keeps l a Good Few in
-      both K (ltb e (length l)) (λ t. both K (fits a (o .lead) (o .trail)) (λ u. both K (le (a .height) (taller o b (eqb e s) .height)) (λ v. omega arith) (λ v. omega arith)) (λ u. omega arith)) (λ t. omega arith)
+      both K (ltb e (length l)) (λ r. both K (fits a (o .lead) (o .trail)) (λ u. both K (le (a .height) (taller o b (eqb e (t .start)) .height)) (λ v. omega arith) (λ v. omega arith)) (λ u. omega arith)) (λ r. omega arith)
 
   turn-few : (st : State) → Ordered l a st → Good st → Keeps l a Good Few (turn l a st)
   unfolding startTurn fitTurn
-  turn-few (atStart s e y n) o g =
+  turn-few (atStart t) o g =
+      let s = t .start in
       let b = getD l s none in
-      let z = larger y (b .start) in
+      let z = larger (t .y) (b .start) in
       let K = Keeps l a Good Few in
-      both K (ltb s (length l)) (λ t. both K (fits a (lead (a .side) b) (trail (a .side) b)) (λ u. end-few s e z n (opened (a .side) b z) (o .0) (o .1) g) (λ u. omega arith)) (λ t. omega (arith, o .0, o .1))
-  turn-few (atEnd s e y n j) o g = end-few s e y n j (o .1) (o .2) g
+      both K (ltb s (length l)) (λ r. both K (fits a (lead (a .side) b) (trail (a .side) b)) (λ u. end-few _ (opened (a .side) b z) (o .0) (o .1) g) (λ u. omega arith)) (λ r. omega (arith, o .0, o .1))
+  turn-few (atEnd t j) o g = end-few t j (o .1) (o .2) g
 
   search-few : (s : ℕ) (y : Float) → s ≤ length l → Few (searchFrom l a s y)
   search-few s y h = search-has l a Good Few turn-few s y h (omega arith)

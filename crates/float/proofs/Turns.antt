@@ -17,7 +17,7 @@ use Rattle.float.specs.declared.search.Reach.{Reach}
 use Rattle.float.specs.declared.search.Spot.{Spot}
 use Rattle.float.specs.Bands.{none, lead, trail}
 use Rattle.float.specs.Fit.{placedAt, fits}
-use Rattle.float.specs.Search.{State, atStart, atEnd, Turn, stop, again, spot, joined, opened, taller, highTurn, joinTurn, endTurn, fitTurn, startTurn, turn, search, searchFrom}
+use Rattle.float.specs.Search.{Try, State, atStart, atEnd, Turn, stop, again, tryFrom, spot, joined, opened, taller, highTurn, joinTurn, endTurn, fitTurn, startTurn, turn, search, searchFrom}
 
 -- what is done with a turn, by what is done with a state that is left
 abbrev onward : (State → Spot) → Turn → Spot
@@ -30,12 +30,12 @@ module _ (l : List Segment) (a : Ask) where
 
   pub go-stop : (f : ℕ) (st : State) (s : Spot) → turn l a st ≡ stop s → search f l a st ≡ s
   unfolding search
-  go-stop zero st s e = ap (onward (λ x. spot 0 0 zero+ zero+ 0)) e
+  go-stop zero st s e = ap (onward (λ x. spot (tryFrom 0 zero+) zero+)) e
   go-stop (suc f) st s e = ap (onward (λ x. search f l a x)) e
 
   go-same : (f : ℕ) (st st' : State) → turn l a st ≡ turn l a st' → search f l a st ≡ search f l a st'
   unfolding search
-  go-same zero st st' e = ap (onward (λ x. spot 0 0 zero+ zero+ 0)) e
+  go-same zero st st' e = ap (onward (λ x. spot (tryFrom 0 zero+) zero+)) e
   go-same (suc f) st st' e = ap (onward (λ x. search f l a x)) e
 
   -- from st₀ the search comes to st with k moves given up
@@ -58,7 +58,7 @@ module _ (l : List Segment) (a : Ask) where
       sym (ap (λ (m : ℕ). search m l a st₀) n ∙ c .by (F - k) ∙ go-stop (F - k) st s e)
 
 -- the turns, over the first n bands of an array
-module _ (bs : List Segment) (n : ℕ) (h : n ≤ length bs) (a : Ask) (s e : ℕ) (y : Float) (k : ℕ) where
+module _ (bs : List Segment) (n : ℕ) (h : n ≤ length bs) (a : Ask) (t : Try) where
   abbrev l : List Segment
   l = take n bs
 
@@ -68,40 +68,44 @@ module _ (bs : List Segment) (n : ℕ) (h : n ≤ length bs) (a : Ask) (s e : �
   out : (i : ℕ) → n ≤ i → ltb i (length l) ≡ false
   out i p = let q = length-take-le n bs h in le-ltb i (length l) (omega arith)
 
-  pub start-out : n ≤ s → turn l a (atStart s e y k) ≡ stop (spot s e y (a .«cb_lead») k)
-  unfolding startTurn
-  start-out p = simp (out s p)
+  -- the start is given up: the next state, where the code's larger number is e
+  abbrev Lower : ℕ → State
+  Lower e = atStart (record { start = t .start + 1; end = e; y = t .y; steps = t .steps + 1 })
 
-  pub start-no : (e' : ℕ) → e' ≡ max e (s + 1) → s < n → fits a (lead (a .side) (getD bs s none)) (trail (a .side) (getD bs s none)) ≡ false → turn l a (atStart s e y k) ≡ again (atStart (s + 1) e' y (k + 1))
+  pub start-out : n ≤ t .start → turn l a (atStart t) ≡ stop (spot t (a .«cb_lead»))
   unfolding startTurn
-  start-no e' m p t = simp (inn s p, getD-take n bs s none p, t, m, add-one)
+  start-out p = simp (out (t .start) p)
 
-  pub start-yes : (y' : Float) (r : Reach) → y' ≡ larger y (getD bs s none .start) → r ≡ opened (a .side) (getD bs s none) y' → s < n → fits a (lead (a .side) (getD bs s none)) (trail (a .side) (getD bs s none)) ≡ true → turn l a (atStart s e y k) ≡ turn l a (atEnd s e y' k r)
+  pub start-no : (e : ℕ) → e ≡ max (t .end) (t .start + 1) → t .start < n → fits a (lead (a .side) (getD bs (t .start) none)) (trail (a .side) (getD bs (t .start) none)) ≡ false → turn l a (atStart t) ≡ again (Lower e)
+  unfolding startTurn
+  start-no e m p f = simp (inn (t .start) p, getD-take n bs (t .start) none p, f, m, add-one)
+
+  pub start-yes : (y : Float) (r : Reach) → y ≡ larger (t .y) (getD bs (t .start) none .start) → r ≡ opened (a .side) (getD bs (t .start) none) y → t .start < n → fits a (lead (a .side) (getD bs (t .start) none)) (trail (a .side) (getD bs (t .start) none)) ≡ true → turn l a (atStart t) ≡ turn l a (atEnd (record { start = t .start; end = t .end; y = y; steps = t .steps }) r)
   unfolding startTurn fitTurn
-  start-yes y' r u v p t = simp (inn s p, getD-take n bs s none p, t, v, u)
+  start-yes y r u v p f = simp (inn (t .start) p, getD-take n bs (t .start) none p, f, v, u)
 
   module _ (r : Reach) where
-    pub end-out : (i : Float) → i ≡ placedAt a (r .lead) → n ≤ e → turn l a (atEnd s e y k r) ≡ stop (spot s e y i k)
+    pub end-out : (i : Float) → i ≡ placedAt a (r .lead) → n ≤ t .end → turn l a (atEnd t r) ≡ stop (spot t i)
     unfolding endTurn
-    end-out i m p = simp (out e p, m)
+    end-out i m p = simp (out (t .end) p, m)
 
-    pub end-no : (e' : ℕ) → e' ≡ max e (s + 1) → e < n → (j : Reach) → j ≡ joined (a .side) r (getD bs e none) → fits a (j .lead) (j .trail) ≡ false → turn l a (atEnd s e y k r) ≡ again (atStart (s + 1) e' y (k + 1))
+    pub end-no : (e : ℕ) → e ≡ max (t .end) (t .start + 1) → t .end < n → (j : Reach) → j ≡ joined (a .side) r (getD bs (t .end) none) → fits a (j .lead) (j .trail) ≡ false → turn l a (atEnd t r) ≡ again (Lower e)
     unfolding endTurn joinTurn
-    end-no e' m p j q t = simp (inn e p, getD-take n bs e none p, sym q, t, m, add-one)
+    end-no e m p j q f = simp (inn (t .end) p, getD-take n bs (t .end) none p, sym q, f, m, add-one)
 
-    pub end-yes : e < n → (j : Reach) → j ≡ joined (a .side) r (getD bs e none) → fits a (j .lead) (j .trail) ≡ true → (g : Reach) → g ≡ taller j (getD bs e none) (eqb e s) → turn l a (atEnd s e y k r) ≡ highTurn a s e y k g
+    pub end-yes : t .end < n → (j : Reach) → j ≡ joined (a .side) r (getD bs (t .end) none) → fits a (j .lead) (j .trail) ≡ true → (g : Reach) → g ≡ taller j (getD bs (t .end) none) (eqb (t .end) (t .start)) → turn l a (atEnd t r) ≡ highTurn a t g
     unfolding endTurn joinTurn
-    end-yes p j q t g u = simp (inn e p, getD-take n bs e none p, sym q, t, sym u)
+    end-yes p j q f g u = simp (inn (t .end) p, getD-take n bs (t .end) none p, sym q, f, sym u)
 
-    pub end-short : (g : Reach) → turn l a (atEnd s e y k r) ≡ highTurn a s e y k g → le (a .height) (g .height) ≡ false → turn l a (atEnd s e y k r) ≡ again (atEnd s (e + 1) y (k + 1) g)
+    pub end-short : (g : Reach) → turn l a (atEnd t r) ≡ highTurn a t g → le (a .height) (g .height) ≡ false → turn l a (atEnd t r) ≡ again (atEnd (record { start = t .start; end = t .end + 1; y = t .y; steps = t .steps + 1 }) g)
     unfolding highTurn
-    end-short g p t = p ∙ simp (t, add-one)
+    end-short g p f = p ∙ simp (f, add-one)
 
-    pub end-done : (g : Reach) (i : Float) → i ≡ placedAt a (g .lead) → turn l a (atEnd s e y k r) ≡ highTurn a s e y k g → le (a .height) (g .height) ≡ true → turn l a (atEnd s e y k r) ≡ stop (spot s e y i k)
+    pub end-done : (g : Reach) (i : Float) → i ≡ placedAt a (g .lead) → turn l a (atEnd t r) ≡ highTurn a t g → le (a .height) (g .height) ≡ true → turn l a (atEnd t r) ≡ stop (spot t i)
     unfolding highTurn
-    end-done g i m p t = p ∙ simp (t, m)
+    end-done g i m p f = p ∙ simp (f, m)
 
-pub finish : (bs : List Segment) (n : ℕ) (h : n ≤ length bs) (a : Ask) (first : ℕ) (y : Float) {st : State} (s : Spot) {k : ℕ} → Comes (take n bs) a (atStart first first y 0) st k → k ≤ n + n → turn (take n bs) a st ≡ stop s → s ≡ searchFrom (take n bs) a first y
+pub finish : (bs : List Segment) (n : ℕ) (h : n ≤ length bs) (a : Ask) (first : ℕ) (y : Float) {st : State} (s : Spot) {k : ℕ} → Comes (take n bs) a (atStart (tryFrom first y)) st k → k ≤ n + n → turn (take n bs) a st ≡ stop s → s ≡ searchFrom (take n bs) a first y
 unfolding searchFrom
 finish bs n h a first y s {k = k} c m e =
     let q = length-take-le n bs h in

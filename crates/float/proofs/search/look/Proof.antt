@@ -10,7 +10,7 @@ use lib.ListN.{length, take}
 use lib.Seq.{length-take-le}
 use Rattle.float.specs.declared.search.Spot.{Spot}
 use Rattle.float.specs.Bands.{firstBelow}
-use Rattle.float.specs.Search.{atStart, atEnd, searchFrom}
+use Rattle.float.specs.Search.{atStart, atEnd, tryFrom, searchFrom}
 use Rattle.float.proofs.Bands.{found-in, next-in, past-in, clamped}
 use Rattle.float.proofs.Turns.{Comes, comes-first, comes-again, comes-same, finish, start-out, start-no, start-yes, end-out, end-no, end-yes, end-short, end-done}
 use Rattle.float.proofs.search.look.Statement.{statement}
@@ -29,7 +29,7 @@ Inv-loop2 n f min-y ask bands side first start₀ end₀ y steps₀ reach₀ sta
     × (start ≤ end)
     × (end ≤ n)
     × (steps + first + first ≤ start + end)
-    × Comes (take n bands) ask (atStart first first min-y 0) (atEnd start end y steps reach) steps
+    × Comes (take n bands) ask (atStart (tryFrom first min-y)) (atEnd (record { start = start; end = end; y = y; steps = steps }) reach) steps
 
 abbrev μ-loop2 : tie.MeasureT-loop2
 μ-loop2 n f min-y ask bands side first start₀ end₀ y steps₀ reach₀ start end steps reach = n - end
@@ -39,7 +39,7 @@ Inv-outer n f min-y ask bands side first start₀ end₀ y₀ steps₀ start end
     (start ≤ end)
     × (end ≤ n)
     × (steps + first + first ≤ start + end)
-    × Comes (take n bands) ask (atStart first first min-y 0) (atStart start end y steps) steps
+    × Comes (take n bands) ask (atStart (tryFrom first min-y)) (atStart (record { start = start; end = end; y = y; steps = steps })) steps
 
 abbrev μ-outer : tie.MeasureT-outer
 μ-outer n f min-y ask bands side first start₀ end₀ y₀ steps₀ start end y steps = n - start
@@ -120,7 +120,7 @@ outer-again c =
       omega arith,
       omega arith,
       comes-again _ _ (o .outer .inv .3)
-          (start-no _ _ (room (o .before .before .before .before)) _ _ _ _ _ _ m (c .before .before .before .before .if2 .left) (sym (c .before .before .start-fits .ensures) ∙ not-true _ (c .before .if3 .taken))),
+          (start-no _ _ (room (o .before .before .before .before)) _ _ _ m (c .before .before .before .before .if2 .left) (sym (c .before .before .start-fits .ensures) ∙ not-true _ (c .before .if3 .taken))),
     )
 
 larger-requires : tie.Need-larger-requires Inv-loop μ-loop Inv-loop2 μ-loop2 Inv-outer μ-outer
@@ -138,7 +138,7 @@ loop2-holds c =
       omega arith,
       omega arith,
       comes-same _ _ _ (o .outer .inv .3)
-          (start-yes _ _ (room (o .before .before .before .before)) _ _ _ _ _ _ _ (c .before .larger .ensures) (c .opened .ensures) (c .before .before .before .before .before .if2 .left) (sym (c .before .before .before .start-fits .ensures) ∙ not-false _ (c .before .before .if3 .left))),
+          (start-yes _ _ (room (o .before .before .before .before)) _ _ _ _ (c .before .larger .ensures) (c .opened .ensures) (c .before .before .before .before .before .if2 .left) (sym (c .before .before .before .start-fits .ensures) ∙ not-false _ (c .before .before .if3 .left))),
     )
 
 placed-at-requires : tie.Need-placed-at-requires Inv-loop μ-loop Inv-loop2 μ-loop2 Inv-outer μ-outer
@@ -176,7 +176,7 @@ outer-again-2 c =
       omega arith,
       omega arith,
       comes-again _ _ (l .loop2 .inv .5)
-          (end-no _ _ (room (o .before .before .before .before)) _ _ _ _ _ _ _ (c .larger-n2 .ensures) (c .before .before .before .before .before .if4 .left) _ (c .before .before .before .joined .ensures) (sym (c .before .before .fits2 .ensures) ∙ not-true _ (c .before .if5 .taken))),
+          (end-no _ _ (room (o .before .before .before .before)) _ _ _ _ (c .larger-n2 .ensures) (c .before .before .before .before .before .if4 .left) _ (c .before .before .before .joined .ensures) (sym (c .before .before .fits2 .ensures) ∙ not-true _ (c .before .if5 .taken))),
     )
 
 taller-requires : tie.Need-taller-requires Inv-loop μ-loop Inv-loop2 μ-loop2 Inv-outer μ-outer
@@ -205,8 +205,8 @@ loop2-again c =
       omega arith,
       omega arith,
       comes-again _ _ (l .loop2 .inv .5)
-          (end-short _ _ (room (o .before .before .before .before)) _ _ _ _ _ _ _
-          (end-yes _ _ (room (o .before .before .before .before)) _ _ _ _ _ _ (e .before .before .before .before .if4 .left) _ (e .before .before .joined .ensures) (sym (e .before .fits2 .ensures) ∙ not-false _ (e .if5 .left)) _ (c .before .before .taller .ensures))
+          (end-short _ _ (room (o .before .before .before .before)) _ _ _ _
+          (end-yes _ _ (room (o .before .before .before .before)) _ _ _ (e .before .before .before .before .if4 .left) _ (e .before .before .joined .ensures) (sym (e .before .fits2 .ensures) ∙ not-false _ (e .if5 .left)) _ (c .before .before .taller .ensures))
           (sym (c .before .tall .ensures) ∙ not-true _ (c .if6 .taken))),
     )
 
@@ -216,13 +216,13 @@ placed-at-requires-2 c κs = search needs
 returns : tie.Need-returns Inv-loop μ-loop Inv-loop2 μ-loop2 Inv-outer μ-outer
 returns c =
     let o = c .before in
-    whole (o .before) _ (finish _ _ (room (o .before .before .before .before)) _ _ _ _ (o .outer .inv .3) (omega arith) (start-out _ _ (room (o .before .before .before .before)) _ _ _ _ _ (c .if2 .taken)))
+    whole (o .before) _ (finish _ _ (room (o .before .before .before .before)) _ _ _ _ (o .outer .inv .3) (omega arith) (start-out _ _ (room (o .before .before .before .before)) _ _ (c .if2 .taken)))
 
 returns-2 : tie.Need-returns-2 Inv-loop μ-loop Inv-loop2 μ-loop2 Inv-outer μ-outer
 returns-2 c =
     let l = c .before .before in
     let o = l .before .before .before .before .before .before .before in
-    whole (o .before) _ (finish _ _ (room (o .before .before .before .before)) _ _ _ _ (l .loop2 .inv .5) (omega arith) (end-out _ _ (room (o .before .before .before .before)) _ _ _ _ _ _ _ (c .placed-at .ensures) (c .before .if4 .taken)))
+    whole (o .before) _ (finish _ _ (room (o .before .before .before .before)) _ _ _ _ (l .loop2 .inv .5) (omega arith) (end-out _ _ (room (o .before .before .before .before)) _ _ _ _ (c .placed-at .ensures) (c .before .if4 .taken)))
 
 returns-3 : tie.Need-returns-3 Inv-loop μ-loop Inv-loop2 μ-loop2 Inv-outer μ-outer
 returns-3 c =
@@ -231,8 +231,8 @@ returns-3 c =
     let l = e .before .before .before .before .before in
     let o = l .before .before .before .before .before .before .before in
     whole (o .before) _ (finish _ _ (room (o .before .before .before .before)) _ _ _ _ (l .loop2 .inv .5) (omega arith)
-    (end-done _ _ (room (o .before .before .before .before)) _ _ _ _ _ _ _ _ (c .placed-at2 .ensures)
-    (end-yes _ _ (room (o .before .before .before .before)) _ _ _ _ _ _ (e .before .before .before .before .if4 .left) _ (e .before .before .joined .ensures) (sym (e .before .fits2 .ensures) ∙ not-false _ (e .if5 .left)) _ (t .before .taller .ensures))
+    (end-done _ _ (room (o .before .before .before .before)) _ _ _ _ _ (c .placed-at2 .ensures)
+    (end-yes _ _ (room (o .before .before .before .before)) _ _ _ (e .before .before .before .before .if4 .left) _ (e .before .before .joined .ensures) (sym (e .before .fits2 .ensures) ∙ not-false _ (e .if5 .left)) _ (t .before .taller .ensures))
     (sym (t .tall .ensures) ∙ not-false _ (c .before .if6 .left))))
 
 pub look-spec : {M : Type 1} → statement M
