@@ -34,7 +34,8 @@ use Rattle.tape.specs.declared.step.State.{State}
 use Rattle.tape.specs.Bytes.{row}
 use Rattle.float.specs.Quest.{contentQuest, bfcQuest}
 use Rattle.tape.specs.Lines.{refusedLine, doneLine, placeLine, contentLine, bfcLine}
-use Rattle.tape.specs.Put.{Line, Tells, Leaves, SameState, Unplaced, asksOf, freshHead, placeRecord, questOf, stateOf}
+use Rattle.tape.specs.Put.{Line, Tells, Leaves, SameState, Unplaced, asksOf, freshHead, questOf, stateOf}
+use Rattle.tape.specs.Record.{placeRecord}
 use Rattle.tape.specs.Tape.{Told, freshState, widened, placed, stepOf}
 use Rattle.tape.proofs.Same.{same-refl, same-sym}
 use Rattle.tape.proofs.Stepping.{one-record}

@@ -24,7 +24,8 @@ use Rattle.tape.specs.declared.step.Calculator.{Calculator}
 use Rattle.tape.specs.declared.step.Question.{Question}
 use Rattle.tape.specs.declared.step.State.{State}
 use Rattle.float.specs.Hold.{Admits}
-use Rattle.tape.specs.Put.{Tells, Places, Unplaced, reckons, questRecord, asksOf, noQuest, questIn, questOf, placeRecord}
+use Rattle.tape.specs.Put.{Tells, Places, Unplaced, reckons, questRecord, asksOf, noQuest, questIn, questOf}
+use Rattle.tape.specs.Record.{placeRecord}
 use Rattle.tape.specs.Tape.{Told, onCalculator, notAdded}
 use Rattle.tape.proofs.record.Record.{the-type}
 

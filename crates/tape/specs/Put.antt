@@ -25,6 +25,7 @@ use Rattle.float.specs.Hold.{Admits}
 use Rattle.float.specs.Quest.{contentQuest, bfcQuest}
 use Rattle.tape.specs.declared.step.Calculator.{Calculator}
 use Rattle.tape.specs.declared.step.State.{State}
+use Rattle.tape.specs.Record.{placeRecord}
 use Rattle.tape.specs.Tape.{Told, run, linesOf}
 
 -- no line ends past this: eleven bytes for each byte of the longest tape, and a line
@@ -64,10 +65,6 @@ pub record Leaves (t : Told State) (s : State) (l : List ℕ) (i : ℕ) (m : Lis
 -- the head of a fresh page
 abbrev pub freshHead : Head
 freshHead = record { width = zero+; count = 0; «box_count» = 0; «left_bottom» = Bottom.None; «right_bottom» = Bottom.None; ceiling = Bottom.None; «left_first» = 0; «left_past» = 0; «right_first» = 0; «right_past» = 0 }
-
--- the record of a placement
-abbrev pub placeRecord : Call → Record
-placeRecord c = Record.Place (c .side) (c .clear) (c .width) (c .height) (c .minY) (c .left) (c .right)
 
 -- what was read is a placement that refusals 1, 2, 3 and 5 let pass
 pub record Places (h : Head) (r : Read) (a : Admission) : Type 0 where

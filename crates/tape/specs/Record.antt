@@ -6,6 +6,7 @@ use lib.Dec.{ltb, leb, eqb}
 use lib.ListN.{length, getD}
 use Rattle.float.specs.declared.AvailableSpace.{AvailableSpace}
 use Rattle.float.specs.declared.BandNumber.{BandNumber}
+use Rattle.float.specs.Place.{Call}
 use Rattle.tape.specs.declared.record.Mode.{Mode}
 use Rattle.tape.specs.declared.record.Read.{Read}
 use Rattle.tape.specs.declared.record.Record.{Record}
@@ -28,6 +29,10 @@ modeOf zero b = Mode.Known (AvailableSpace.Definite (f32At b 1))
 modeOf (suc zero) b = Mode.Known AvailableSpace.MinContent
 modeOf (suc (suc zero)) b = Mode.Known AvailableSpace.MaxContent
 modeOf (suc (suc (suc m))) b = Mode.Unknown
+
+-- the record of a placement
+abbrev pub placeRecord : Call → Record
+placeRecord c = Record.Place (c .side) (c .clear) (c .width) (c .height) (c .minY) (c .left) (c .right)
 
 -- a whole body, by kind
 abbrev pub recordOf : ℕ → List ℕ → Record

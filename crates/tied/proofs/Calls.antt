@@ -24,10 +24,10 @@ use Rattle.tape.specs.declared.record.Record.{Record}
 use Rattle.tape.specs.declared.step.Calculator.{Calculator}
 use Rattle.tape.specs.declared.step.State.{State}
 use Rattle.tape.specs.Bytes.{float, decimal, row}
-use Rattle.tape.specs.Record.{bodyLen, readOf}
+use Rattle.tape.specs.Record.{bodyLen, placeRecord, readOf}
 use Rattle.tape.specs.Lines.{doneLine, placeLine, refusedLine}
 use Rattle.tape.specs.Tape.{freshState, started as startedBy, addTo, stepOf, run as runTape, linesOf}
-use Rattle.tied.specs.Acts.{placing, callsIn, records, recordsOf, broken, brokenLine, stateAfter, linesFrom, RecordAt, lineAt, PLine, RLine, stateAt, runAt, callsNext}
+use Rattle.tied.specs.Acts.{callsIn, records, recordsOf, broken, brokenLine, stateAfter, linesFrom, RecordAt, lineAt, PLine, RLine, stateAt, runAt, callsNext}
 
 -- ---- the page
 
@@ -142,15 +142,15 @@ module _ (g : List Accepted) (c : Call) (p : Page) where
       (k, ap (λ (b : Accepted). row 80 (float (b .x) ∷ float (b .y) ∷ decimal k ∷ [])) z, sym (ap (λ (b : Accepted). b .call) z))
   noted-as (PlaceAnswer.Refused n) a e = absurd (longer g a e)
 
-module _ (t : List ℕ) (n : ℕ) (c : Call) (e : RecordAt t n (placing c)) where
+module _ (t : List ℕ) (n : ℕ) (c : Call) (e : RecordAt t n (placeRecord c)) where
   -- the line of a placement is the answer of the one that the promises speak of
   pub place-line : lineAt t n ≡ placeLine (placeOf (runAt t n .struct) c .answer)
   unfolding stepOf
-  place-line = tape-line t n (placing c) e
+  place-line = tape-line t n (placeRecord c) e
 
   accepted-next : runAt t (suc n) .accepted ≡ noted (placeOf (runAt t n .struct) c .answer) (cleaned c) (pageOf (placeOf (runAt t n .struct) c .page)) (runAt t n .accepted)
   unfolding run
-  accepted-next = ap (λ (r : Run). r .accepted) (run-one t n (placing c) e)
+  accepted-next = ap (λ (r : Run). r .accepted) (run-one t n (placeRecord c) e)
 
   -- it is accepted, one more than were before, exactly when its line is a P line
   pub accepted-exactly : (PLine (lineAt t n)) ↔ ((a : Accepted) × (runAt t (suc n) .accepted ≡ runAt t n .accepted ++ a ∷ []))

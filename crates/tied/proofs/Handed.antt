@@ -14,8 +14,8 @@ use Rattle.demands.specs.Runs.{Each, box, handed, Handed, F32}
 use Rattle.tape.specs.declared.record.Read.{Read}
 use Rattle.tape.specs.declared.record.Record.{Record}
 use Rattle.tape.specs.Bytes.{f32At}
-use Rattle.tape.specs.Record.{bodyLens, bodyLen, recordOf, readOf}
-use Rattle.tied.specs.Acts.{placing, callsIn, records, recordsOf, RecordAt, callsAt, callsNext}
+use Rattle.tape.specs.Record.{bodyLens, bodyLen, placeRecord, recordOf, readOf}
+use Rattle.tied.specs.Acts.{callsIn, records, recordsOf, RecordAt, callsAt, callsNext}
 
 -- ---- what holds of each of a list
 module _ {A : Type 0} (P : A → Type 0) where
@@ -82,5 +82,5 @@ pub next-f32 : (t : List ℕ) (n k : ℕ) → Handed F32 (callsNext t n k)
 next-f32 t n k = each-made (λ o. Each F32 (handed o)) callsIn (take k (drop n (recordsOf t))) (each-take Hands k (drop n (recordsOf t)) (each-drop Hands n (recordsOf t) (records-f32 (length t) t)))
 
 -- and those of one placement
-pub placed-f32 : (t : List ℕ) (n : ℕ) (c : Call) → RecordAt t n (placing c) → Each F32 (handed (box c))
-placed-f32 t n c e = each-at Hands (recordsOf t) n (placing c) e (records-f32 (length t) t) .0
+pub placed-f32 : (t : List ℕ) (n : ℕ) (c : Call) → RecordAt t n (placeRecord c) → Each F32 (handed (box c))
+placed-f32 t n c e = each-at Hands (recordsOf t) n (placeRecord c) e (records-f32 (length t) t) .0

@@ -11,7 +11,8 @@ use Rattle.float.specs.Bands.{sameSide}
 use Rattle.float.specs.Place.{Call, placeOf}
 use Rattle.demands.specs.Runs.{Each, Pairs, boxIn, run, pageIn, bandsIn, Stays, Handed, Whole64, NoSmaller, EdgeToEdge, sideIn, containingLead, containingTrail, sized, shareHeight, overlap, Page64}
 use Rattle.demands.proofs.Promises.{bands-lie, boxes-kept, no-inset-smaller, two-bands-more, steps-at-most, rule-1, rule-5, page-in-64ths, rule-7, no-overlap}
-use Rattle.tied.specs.Acts.{placing, RecordAt, callsAt, runAt, callsNext}
+use Rattle.tape.specs.Record.{placeRecord}
+use Rattle.tied.specs.Acts.{RecordAt, callsAt, runAt, callsNext}
 use Rattle.tied.proofs.Handed.{tape-f32, next-f32, placed-f32}
 use Rattle.tied.proofs.Calls.{run-next, run-one}
 
@@ -30,12 +31,12 @@ pub tape-no-inset-smaller : (t : List ℕ) (n k : ℕ) → Each Stays (callsNext
 tape-no-inset-smaller t n k h = rw (run-next t n k) (no-inset-smaller (callsAt t n) (callsNext t n k) (tape-f32 t n) (next-f32 t n k) h)
 
 -- a placement adds at most two bands
-pub tape-two-bands-more : (t : List ℕ) (n : ℕ) (c : Call) → RecordAt t n (placing c) → length (bandsIn (runAt t (suc n))) ≤ length (bandsIn (runAt t n)) + 2
+pub tape-two-bands-more : (t : List ℕ) (n : ℕ) (c : Call) → RecordAt t n (placeRecord c) → length (bandsIn (runAt t (suc n))) ≤ length (bandsIn (runAt t n)) + 2
 unfolding run
-tape-two-bands-more t n c e = rw (run-one t n (placing c) e) (two-bands-more (callsAt t n) c (tape-f32 t n) (placed-f32 t n c e))
+tape-two-bands-more t n c e = rw (run-one t n (placeRecord c) e) (two-bands-more (callsAt t n) c (tape-f32 t n) (placed-f32 t n c e))
 
 -- on m bands it takes at most 2m steps
-pub tape-steps-at-most : (t : List ℕ) (n : ℕ) (c : Call) → RecordAt t n (placing c) → (x y : Float) (k : ℕ) → placeOf (runAt t n .struct) c .answer ≡ PlaceAnswer.At x y k → k ≤ length (bandsIn (runAt t n)) + length (bandsIn (runAt t n))
+pub tape-steps-at-most : (t : List ℕ) (n : ℕ) (c : Call) → RecordAt t n (placeRecord c) → (x y : Float) (k : ℕ) → placeOf (runAt t n .struct) c .answer ≡ PlaceAnswer.At x y k → k ≤ length (bandsIn (runAt t n)) + length (bandsIn (runAt t n))
 tape-steps-at-most t n c e = steps-at-most (callsAt t n) c (tape-f32 t n) (placed-f32 t n c e)
 
 -- rule 5: no box is put higher than an earlier one

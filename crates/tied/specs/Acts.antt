@@ -4,7 +4,6 @@ use mathlib.Core.Path.{_≡_}
 use mathlib.Core.Option.{some}
 use mathlib.Core.List.{List, [], _∷_, foldl, flatMap}
 use lib.ListN.{length, take, drop, getD, getElem?}
-use Rattle.float.specs.Place.{Call}
 use Rattle.demands.specs.Runs.{Act, newPage, width, box, Run, after}
 use Rattle.tape.specs.declared.record.Read.{Read}
 use Rattle.tape.specs.declared.record.Record.{Record}
@@ -14,10 +13,6 @@ use Rattle.tape.specs.Record.{bodyLen, readOf}
 use Rattle.tape.specs.Tape.{freshState, stepOf}
 
 -- ---- records
-
--- the record of a placement
-abbrev pub placing : Call → Record
-placing c = Record.Place (c .side) (c .clear) (c .width) (c .height) (c .minY) (c .left) (c .right)
 
 -- the calls of a record that change a page: one, or none
 abbrev pub callsIn : Record → List Act
