@@ -65,13 +65,13 @@ no-inset-smaller os more f g s =
     no-smaller (bandsIn (after os)) (bandsIn (run (after os) more)) (v .chain) (w .0 .chain) (w .1)
 
 -- a further box adds at most two bands
-pub two-bands-more : (os : List Act) (c : Call) → Handed F32 os → Each F32 (handed (box c)) → length (bandsIn (next (after os) (box c))) ≤ length (bandsIn (after os)) + 2
-two-bands-more os c f g = subst (λ (q : Page). length (q .bands) ≤ length (bandsIn (after os)) + 2) (sym (page-placed (after os .struct) c)) (place-more (pageIn (after os)) c)
+pub two-bands-more : (os : List Act) (c : Call) → length (bandsIn (next (after os) (box c))) ≤ length (bandsIn (after os)) + 2
+two-bands-more os c = subst (λ (q : Page). length (q .bands) ≤ length (bandsIn (after os)) + 2) (sym (page-placed (after os .struct) c)) (place-more (pageIn (after os)) c)
 
 -- on n bands it takes at most 2n steps
-pub steps-at-most : (os : List Act) (c : Call) → Handed F32 os → Each F32 (handed (box c)) → (x y : Float) (k : ℕ) → placeOf (after os .struct) c .answer ≡ PlaceAnswer.At x y k → k ≤ length (bandsIn (after os)) + length (bandsIn (after os))
+pub steps-at-most : (os : List Act) (c : Call) (x y : Float) (k : ℕ) → placeOf (after os .struct) c .answer ≡ PlaceAnswer.At x y k → k ≤ length (bandsIn (after os)) + length (bandsIn (after os))
 unfolding placeOf
-steps-at-most os c f g x y k e = subst (StepsTo (length (bandsIn (after os)))) e (place-few (pageIn (after os)) c)
+steps-at-most os c x y k e = subst (StepsTo (length (bandsIn (after os)))) e (place-few (pageIn (after os)) c)
 
 -- the start band is left whole or split strictly inside; then so is the end band, of the bands as they stand
 pub splits-inside : (os : List Act) (c : Call) → Handed F32 os → Each F32 (handed (box c)) → inputCheck (cleaned c) ≡ Check.Passed → spotOf (pageIn (after os)) (cleaned c) .start < length (bandsIn (after os))

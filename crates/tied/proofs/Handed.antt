@@ -1,21 +1,17 @@
 -- What a tape hands in is f32, whatever its bytes: any four of them are one.
 use Prim.Native.Nat.{ℕ, zero, suc}
-use native.Mathlib.Omega.{arith}
-use mathlib.Core.Option.{some}
-use mathlib.Core.Path.{_≡_, subst}
 use mathlib.Core.Bool.{Bool, true, false, _&&_, cond}
 use mathlib.Core.List.{List, [], _∷_, _++_, flatMap}
 use lib.Dec.{ltb, leb}
 use lib.Ieee.{binary32}
 use lib.Ieee.Bits.{ofBits-fits}
-use lib.ListN.{length, take, drop, getElem?}
-use Rattle.float.specs.Place.{Call}
-use Rattle.demands.specs.Runs.{Each, box, handed, Handed, F32}
+use lib.ListN.{length, take, drop}
+use Rattle.demands.specs.Runs.{Each, handed, Handed, F32}
 use Rattle.tape.specs.declared.record.Read.{Read}
 use Rattle.tape.specs.declared.record.Record.{Record}
 use Rattle.tape.specs.Bytes.{f32At}
-use Rattle.tape.specs.Record.{bodyLens, bodyLen, placeRecord, recordOf, readOf}
-use Rattle.tied.specs.Acts.{callsIn, records, recordsOf, RecordAt, callsAt, callsNext}
+use Rattle.tape.specs.Record.{bodyLens, bodyLen, recordOf, readOf}
+use Rattle.tied.specs.Acts.{callsIn, records, recordsOf, callsAt, callsNext}
 
 -- ---- what holds of each of a list
 module _ {A : Type 0} (P : A → Type 0) where
@@ -32,11 +28,6 @@ module _ {A : Type 0} (P : A → Type 0) where
   each-drop zero l h = h
   each-drop (suc n) [] h = tt
   each-drop (suc n) (x ∷ l) h = each-drop n l (h .1)
-
-  each-at : (l : List A) (n : ℕ) (x : A) → getElem? l n ≡ some x → Each P l → P x
-  each-at [] n x e h = absurd (let z : _≡_ {A = ℕ} 0 1 = cc in omega arith)
-  each-at (y ∷ l) zero x e h = subst P (let z : y ≡ x = cc in z) (h .0)
-  each-at (y ∷ l) (suc n) x e h = each-at l n x e (h .1)
 
   -- of what each of another list makes
   pub each-made : {B : Type 0} (f : B → List A) (l : List B) → Each (λ x. Each P (f x)) l → Each P (flatMap f l)
@@ -80,7 +71,3 @@ tape-f32 t n = each-made (λ o. Each F32 (handed o)) callsIn (take n (recordsOf 
 
 pub next-f32 : (t : List ℕ) (n k : ℕ) → Handed F32 (callsNext t n k)
 next-f32 t n k = each-made (λ o. Each F32 (handed o)) callsIn (take k (drop n (recordsOf t))) (each-take Hands k (drop n (recordsOf t)) (each-drop Hands n (recordsOf t) (records-f32 (length t) t)))
-
--- and those of one placement
-pub placed-f32 : (t : List ℕ) (n : ℕ) (c : Call) → RecordAt t n (placeRecord c) → Each F32 (handed (box c))
-placed-f32 t n c e = each-at Hands (recordsOf t) n (placeRecord c) e (records-f32 (length t) t) .0

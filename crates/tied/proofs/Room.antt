@@ -25,7 +25,7 @@ use Rattle.float.specs.declared.slot.Sought.{Sought}
 use Rattle.float.specs.Page.{Page, pageOf, front}
 use Rattle.float.specs.Place.{Call, placeOf}
 use Rattle.float.specs.Slot.{active, landed, seek, contentSlot, ContentCall, content, bfcSlot, BfcCall, bfc}
-use Rattle.demands.specs.Runs.{Each, box, handed, Handed, F32, after}
+use Rattle.demands.specs.Runs.{Each, handed, Handed, F32, after}
 use Rattle.demands.proofs.Adding.{check-ways}
 use Rattle.demands.proofs.Promises.{bands-lie, steps-at-most}
 use Rattle.tape.specs.declared.record.Read.{Read}
@@ -131,17 +131,17 @@ module _ (qs : List Record) (f : Each Hands qs) where
   few-bands : length (pageOf (stateAfter freshState qs .page) .bands) ≤ 96
   few-bands = subst (λ (p : FloatContext). length (pageOf p .bands) ≤ 96) (sym (page-after qs)) (bands-lie (flatMap callsIn qs) calls-f32 .1)
 
-  few-steps : (c : Call) → Each F32 (handed (box c)) → length (placeLine (placeOf (stateAfter freshState qs .page) c .answer)) ≤ 47
-  few-steps c g =
+  few-steps : (c : Call) → length (placeLine (placeOf (stateAfter freshState qs .page) c .answer)) ≤ 47
+  few-steps c =
       subst (λ (p : FloatContext). length (placeLine (placeOf p c .answer)) ≤ 47) (sym (page-after qs))
-      (place-short _ (λ x y k e. let n = bands-lie (flatMap callsIn qs) calls-f32 .1 in let m = steps-at-most (flatMap callsIn qs) c calls-f32 g x y k e in omega arith))
+      (place-short _ (λ x y k e. let n = bands-lie (flatMap callsIn qs) calls-f32 .1 in let m = steps-at-most (flatMap callsIn qs) c x y k e in omega arith))
 
   -- a line of numbers
   long-line : (k : ℕ) (b : List ℕ) → 15 ≤ bodyLen k → length (stepOf (stateAfter freshState qs) (recordOf k b) .line) ≤ 47
   unfolding stepOf
   long-line zero b h = absurd (omega arith)
   long-line (suc zero) b h = absurd (omega arith)
-  long-line (suc (suc zero)) b h = few-steps _ (record-f32 2 b .0)
+  long-line (suc (suc zero)) b h = few-steps _
   long-line (suc (suc (suc zero))) b h = content-short _ few-bands _
   long-line (suc (suc (suc (suc zero)))) b h = bfc-short _ few-bands _
   long-line (suc (suc (suc (suc (suc zero))))) b h = absurd (omega arith)

@@ -13,7 +13,7 @@ use Rattle.demands.specs.Runs.{Each, Pairs, boxIn, run, pageIn, bandsIn, Stays,
 use Rattle.demands.proofs.Promises.{bands-lie, boxes-kept, no-inset-smaller, two-bands-more, steps-at-most, rule-1, rule-5, page-in-64ths, rule-7, no-overlap}
 use Rattle.tape.specs.Record.{placeRecord}
 use Rattle.tied.specs.Acts.{RecordAt, callsAt, runAt, callsNext}
-use Rattle.tied.proofs.Handed.{tape-f32, next-f32, placed-f32}
+use Rattle.tied.proofs.Handed.{tape-f32, next-f32}
 use Rattle.tied.proofs.Calls.{run-next, run-one}
 
 -- ---- any numbers: after the first n records of the tape t
@@ -33,11 +33,11 @@ tape-no-inset-smaller t n k h = rw (run-next t n k) (no-inset-smaller (callsAt t
 -- a placement adds at most two bands
 pub tape-two-bands-more : (t : List ℕ) (n : ℕ) (c : Call) → RecordAt t n (placeRecord c) → length (bandsIn (runAt t (suc n))) ≤ length (bandsIn (runAt t n)) + 2
 unfolding run
-tape-two-bands-more t n c e = rw (run-one t n (placeRecord c) e) (two-bands-more (callsAt t n) c (tape-f32 t n) (placed-f32 t n c e))
+tape-two-bands-more t n c e = rw (run-one t n (placeRecord c) e) (two-bands-more (callsAt t n) c)
 
 -- on m bands it takes at most 2m steps
-pub tape-steps-at-most : (t : List ℕ) (n : ℕ) (c : Call) → RecordAt t n (placeRecord c) → (x y : Float) (k : ℕ) → placeOf (runAt t n .struct) c .answer ≡ PlaceAnswer.At x y k → k ≤ length (bandsIn (runAt t n)) + length (bandsIn (runAt t n))
-tape-steps-at-most t n c e = steps-at-most (callsAt t n) c (tape-f32 t n) (placed-f32 t n c e)
+pub tape-steps-at-most : (t : List ℕ) (n : ℕ) (c : Call) (x y : Float) (k : ℕ) → placeOf (runAt t n .struct) c .answer ≡ PlaceAnswer.At x y k → k ≤ length (bandsIn (runAt t n)) + length (bandsIn (runAt t n))
+tape-steps-at-most t n = steps-at-most (callsAt t n)
 
 -- rule 5: no box is put higher than an earlier one
 pub tape-rule-5 : (t : List ℕ) (n : ℕ) → Pairs (λ a b. T (le (a .y) (b .y))) (runAt t n .accepted)
