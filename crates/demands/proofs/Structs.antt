@@ -10,6 +10,7 @@ use Rattle.float.specs.Page.{Page, fresh, pageOf, front, stored, freshContext}
 use Rattle.float.specs.Place.{Call, Result, place, placedPage, placeOf, widthCheck, withWidth, ifDone, setWidth, widthOf}
 use Rattle.demands.proofs.Ways.{place-ways}
 
+-- tape has this law too (Same.antt): this crate cites no proof of float's, for it judges definitions where those proofs are gone (tools/definitions.py)
 page-stored : (q : Page) (p : FloatContext) → pageOf (stored q p) ≡ q
 unfolding pageOf stored front
 page-stored q p = simp take-append-seam
