@@ -3,6 +3,8 @@ ghost use mathlib.Core.Path.{_≡_};
 ghost use Rattle.probe.specs.Truth.{bit, fitsAt};
 ghost use Rattle.probe.specs.Kept.{pageAfter, boxAt};
 ghost use Rattle.f32_laws.specs.Numbers.{larger, smaller, «zero+»};
+ghost use Rattle.float.specs.Page.{freshContext};
+ghost use Rattle.float.specs.Place.{widthOf};
 ghost use Rattle.float.specs.Numbers.{most, least, plusZero, finite, within, inReach};
 use float::FloatContext;
 use float::FloatDirection;
@@ -103,6 +105,15 @@ pub extern "C" fn probe_fits(
     }
 }
 
+// A fresh page of this width.
+fn fresh(wide: f32) -> FloatContext
+    ensures { λ r. ⌜ r ≡ (widthOf freshContext wide) .page ⌝ }
+{
+    let page = FloatContext::new();
+    let widened = page.set_width(wide);
+    widened.page
+}
+
 // How far down the box `which` of a page stands, 0 if there is none.
 fn top_of(page: FloatContext, which: usize) -> f32
     ensures { λ r. ⌜ r ≡ (boxAt page which) .y ⌝ }
@@ -126,9 +137,7 @@ pub extern "C" fn probe_kept(
 ) -> f32
     ensures { λ r. ⌜ r ≡ (boxAt (pageAfter wide side width height step count) which) .y ⌝ }
 {
-    let fresh = FloatContext::new();
-    let widened = fresh.set_width(wide);
-    let mut page = widened.page;
+    let mut page = fresh(wide);
     let mut top: f32 = 0.0;
     let mut i: usize = 0;
     while i < count {
@@ -138,5 +147,37 @@ pub extern "C" fn probe_kept(
         top = top + step;
         i += 1;
     }
+    top_of(page, which)
+}
+
+// The page after such placements by `place_in`: it stays where it lies.
+fn page_in(count: usize, wide: f32, side: u8, width: f32, height: f32, step: f32) -> FloatContext
+    ensures { λ r. ⌜ r ≡ pageAfter wide side width height step count ⌝ }
+{
+    let mut page = fresh(wide);
+    let mut top: f32 = 0.0;
+    let mut i: usize = 0;
+    while i < count {
+        page.place_in(width, height, top, 0.0, 0.0, side, 0);
+        top = top + step;
+        i += 1;
+    }
+    page
+}
+
+// What `probe_kept` gives, of a page that is kept by `place_in`.
+#[no_mangle]
+pub extern "C" fn probe_kept_in(
+    count: usize,
+    which: usize,
+    wide: f32,
+    side: u8,
+    width: f32,
+    height: f32,
+    step: f32,
+) -> f32
+    ensures { λ r. ⌜ r ≡ (boxAt (pageAfter wide side width height step count) which) .y ⌝ }
+{
+    let page = page_in(count, wide, side, width, height, step);
     top_of(page, which)
 }
