@@ -129,6 +129,15 @@ pub mod probe {
                 height: f32,
                 step: f32,
             ) -> f32;
+            pub fn probe_kept_in(
+                count: usize,
+                which: usize,
+                wide: f32,
+                side: u8,
+                width: f32,
+                height: f32,
+                step: f32,
+            ) -> f32;
         }
     }
 
@@ -159,5 +168,8 @@ pub mod probe {
     }
     pub fn kept(count: usize, which: usize, wide: f32, side: u8, size: [f32; 2], step: f32) -> f32 {
         unsafe { raw::probe_kept(count, which, wide, side, size[0], size[1], step) }
+    }
+    pub fn kept_in(count: usize, which: usize, wide: f32, side: u8, size: [f32; 2], step: f32) -> f32 {
+        unsafe { raw::probe_kept_in(count, which, wide, side, size[0], size[1], step) }
     }
 }

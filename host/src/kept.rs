@@ -1,5 +1,5 @@
-//! A page kept over some placements, with no tape: by value in the proved library, and by the crate. Both are an `archive::Runner`, whose
-//! tape is one byte, the number of boxes; they give the bits of the height at which the last one stands.
+//! A page kept over some placements, with no tape: by value and by `place_in` in the proved library, and by the crate. Each is an
+//! `archive::Runner`, whose tape is one byte, the number of boxes; it gives the bits of the height at which the last one stands.
 
 use crate::archive::probe;
 use crate::float::FloatContext;
@@ -9,9 +9,14 @@ const WIDE: f32 = 320.0;
 const SIZE: [f32; 2] = [56.0, 24.0];
 const STEP: f32 = 8.0;
 
-pub fn by_archive(tape: &[u8], _: &mut [u8]) -> i64 {
+pub fn by_value(tape: &[u8], _: &mut [u8]) -> i64 {
     let count = usize::from(tape[0]);
     probe::kept(count, count - 1, WIDE, 0, SIZE, STEP).to_bits().into()
+}
+
+pub fn by_place_in(tape: &[u8], _: &mut [u8]) -> i64 {
+    let count = usize::from(tape[0]);
+    probe::kept_in(count, count - 1, WIDE, 0, SIZE, STEP).to_bits().into()
 }
 
 pub fn by_crate(tape: &[u8], _: &mut [u8]) -> i64 {

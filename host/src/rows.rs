@@ -215,13 +215,13 @@ fn longest() -> Vec<u8> {
 
 /// The last quarter of the boxes of a page that is kept with no tape.
 #[cfg(has_probe)]
-fn kept(boxes: usize) -> Row {
+fn kept(by: &str, by_archive: Runner, boxes: usize) -> Row {
     let run = |boxes: usize| vec![Run { tape: vec![boxes as u8], room: 0 }];
     let before = boxes * 3 / 4;
     Row {
-        name: format!("a placement on a page kept by value, page of {boxes}"),
+        name: format!("a placement on a page kept by {by}, page of {boxes}"),
         records: boxes - before,
-        sides: [kept::by_archive, kept::by_crate],
+        sides: [by_archive, kept::by_crate],
         with: run(boxes),
         without: run(before),
     }
@@ -232,7 +232,7 @@ pub fn rows() -> Vec<Row> {
     let mut rows: Vec<Row> = SIZES.iter().map(|boxes| last_quarter("a placement", *boxes, page)).collect();
     rows.push(last_quarter("a placement and two questions", full, asked_between));
     #[cfg(has_probe)]
-    rows.push(kept(full));
+    rows.extend([kept("value", kept::by_value, full), kept("`place_in`", kept::by_place_in, full)]);
     rows.extend(SIZES.iter().map(|boxes| slots("a content question", *boxes, false)));
     rows.extend(SIZES.iter().map(|boxes| slots("a BFC question", *boxes, true)));
     rows.extend(refusals());
