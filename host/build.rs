@@ -13,7 +13,7 @@ impl FloatContext {
 }
 ";
 
-/// Handed to the counted copy: the step count and the private parts of the page.
+/// Handed to the counted copy: the step count, the changes of bands, and the private parts of the page.
 const APPENDED: &str = include_str!("appended.rs");
 
 fn main() {
@@ -52,8 +52,39 @@ fn taffy(root: &Path) {
     fs::write(out.join("oracle.rs"), modules).unwrap();
 }
 
-/// The text with a count where the search gives up a start (twice) or an end (once), and nowhere else.
+/// Where a placement begins, and where it splits a band, adds one, or records the box: each line of float.rs, with what the counted copy
+/// says after it.
+const NOTED: [(&str, &str); 6] = [
+    ("self.has_floats = true;", "begun();"),
+    ("self.segments.splice((idx + 1)..(idx + 1), core::iter::once(new_segment));", "note(Change::Split(idx));"),
+    (
+        "self.segments.push(Segment { y: last_y_end..start_y, insets: [0.0, 0.0], has_float: [false; 2] });",
+        "note(Change::Added);",
+    ),
+    (
+        "self.segments.push(Segment { y: start_y..(start_y + floated_box.height), insets, has_float });",
+        "note(Change::Added); let below = self.segments.len(); note(Change::Recorded(slot, below - 1..below));",
+    ),
+    ("self.segments.push(Segment { y: last_y_end..end_y, insets, has_float: [false; 2] });", "note(Change::Added);"),
+    (
+        "let placed_inset_plus_width = placed_inset + floated_box.width;",
+        "note(Change::Recorded(slot, start_idx..end_idx + 1));",
+    ),
+];
+
+/// How often float.rs splits and adds bands, and sets marks: all of it at or right after a line of NOTED.
+const CHANGING: [(&str, usize); 4] = [
+    ("self.segments.splice(", 1),
+    ("self.segments.push(", 3),
+    ("for segment in &mut self.segments[start_idx..=end_idx] {", 1),
+    ("has_float[slot] = true;", 2),
+];
+
+/// The text with a count where the search gives up a start (twice) or an end (once), and nowhere else, and with the notes.
 fn counted(text: &str) -> String {
+    for (part, times) in NOTED.map(|(line, _)| (line, 1)).into_iter().chain(CHANGING) {
+        assert_eq!(text.matches(part).count(), times, "float.rs has otherwise '{part}': it is not taffy 0.15.1");
+    }
     let mut copy = String::new();
     let mut starts = 0;
     let mut ends = 0;
@@ -71,6 +102,10 @@ fn counted(text: &str) -> String {
         copy += line;
         copy += "\n";
         before = line.trim();
+        if let Some((_, note)) = NOTED.iter().find(|(line, _)| *line == before) {
+            copy += note;
+            copy += "\n";
+        }
     }
     assert_eq!(
         (starts, ends),

@@ -1,4 +1,5 @@
-/* A page laid out from C: builds a tape in memory, runs it, and reads the answer lines back into numbers. */
+/* A page laid out from C: builds a tape in memory, runs it, reads the answer lines back into numbers, and asks which boxes
+   stand beside the text. */
 #include <inttypes.h>
 #include <stdio.h>
 #include <stdlib.h>
@@ -125,13 +126,29 @@ static void print_line(const uint8_t *bytes, size_t len, const struct bulameki_l
         printf("%.*s\n", (int)len - 1, (const char *)bytes);
 }
 
+/* Says which box stands innermost on each side of a band: the one that a finger beside the text touches. */
+static void print_touched(const struct tape *tape, size_t band)
+{
+    static const char *const sides[] = {"left", "right"};
+    uint8_t side;
+    printf("beside band %zu:", band);
+    for (side = BULAMEKI_LEFT; side <= BULAMEKI_RIGHT; side++) {
+        int64_t box = bulameki_innermost(tape->bytes, tape->len, band, side);
+        if (box == BULAMEKI_NONE)
+            printf(" no box %s", sides[side]);
+        else
+            printf(" box %" PRId64 " %s", box, sides[side]);
+        printf(side == BULAMEKI_LEFT ? "," : "\n");
+    }
+}
+
 int main(void)
 {
     struct tape tape = {{0}, 0};
     uint8_t answers[BULAMEKI_ROOM(sizeof tape.bytes)];
     struct bulameki_line line;
     int64_t written;
-    size_t at, took;
+    size_t at, took, band;
 
     if (bulameki_environment() != 0) {
         fprintf(stderr, "page: this floating-point environment gives wrong answers, faults %u\n", bulameki_environment());
@@ -167,6 +184,11 @@ int main(void)
         print_line(answers + at, took, &line);
     }
 
+    /* Bands are numbered from the top; the last question is one too far. */
+    for (band = 0; band <= 5; band++)
+        print_touched(&tape, band);
+    printf("an unknown side: %" PRId64 "\n", bulameki_innermost(tape.bytes, tape.len, 0, 2));
+
     /* One byte too little: nothing at all is written. */
     memset(answers, 0xEE, sizeof answers);
     printf("one byte less of room: %" PRId64, bulameki_run_tape(tape.bytes, tape.len, answers, (size_t)written - 1));
@@ -177,5 +199,6 @@ int main(void)
     /* Where a length is 0 its pointer may be null. */
     printf("no tape, no room: %" PRId64 "\n", bulameki_run_tape(NULL, 0, NULL, 0));
     printf("a tape, no room: %" PRId64 "\n", bulameki_run_tape(tape.bytes, tape.len, NULL, 0));
+    printf("no tape, no band: %" PRId64 "\n", bulameki_innermost(NULL, 0, 0, BULAMEKI_LEFT));
     return 0;
 }

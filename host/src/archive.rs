@@ -3,9 +3,19 @@
 /// Runs a tape into the room lent: how many bytes were written, or -13.
 pub type Runner = fn(&[u8], &mut [u8]) -> i64;
 
+/// Which box stands innermost in a band on a side, after a tape: its number, or one of the two below.
+pub type Innermost = fn(&[u8], usize, u8) -> i64;
+
+/// Given where the band has no float on that side, and where there is no such band.
+pub const NO_BOX: i64 = -100;
+
+/// Given for a side that is neither 0 nor 1: minus refusal 1.
+pub const UNKNOWN_SIDE: i64 = -1;
+
 #[cfg(has_panel)]
 extern "C" {
     fn bulameki_run_tape(tape: *const u8, tape_len: usize, answers: *mut u8, room: usize) -> i64;
+    fn bulameki_innermost(tape: *const u8, tape_len: usize, band: usize, side: u8) -> i64;
 }
 
 /// `bulameki_run_tape` of the archive that ships, where it is linked.
@@ -13,6 +23,15 @@ pub fn panel() -> Option<Runner> {
     // SAFETY: both pointers are those of slices of the lengths given.
     #[cfg(has_panel)]
     return Some(|tape, room| unsafe { bulameki_run_tape(tape.as_ptr(), tape.len(), room.as_mut_ptr(), room.len()) });
+    #[cfg(not(has_panel))]
+    None
+}
+
+/// `bulameki_innermost` of the same archive.
+pub fn innermost() -> Option<Innermost> {
+    // SAFETY: the pointer is that of a slice of the length given.
+    #[cfg(has_panel)]
+    return Some(|tape, band, side| unsafe { bulameki_innermost(tape.as_ptr(), tape.len(), band, side) });
     #[cfg(not(has_panel))]
     None
 }
@@ -62,6 +81,13 @@ pub fn panel_of_nothing() -> i64 {
     unsafe { bulameki_run_tape(std::ptr::null(), 0, std::ptr::null_mut(), 0) }
 }
 
+/// `bulameki_innermost` with null for the tape, of length 0.
+#[cfg(has_panel)]
+pub fn innermost_of_nothing(band: usize, side: u8) -> i64 {
+    // SAFETY: as above.
+    unsafe { bulameki_innermost(std::ptr::null(), 0, band, side) }
+}
+
 /// `bulameki_run_tape` on a tape that others may change meanwhile, into room that nothing else refers to.
 ///
 /// # Safety
@@ -71,26 +97,43 @@ pub unsafe fn panel_raw(tape: *const u8, tape_len: usize, answers: *mut u8, room
     bulameki_run_tape(tape, tape_len, answers, room)
 }
 
-/// How deep the stack of `bulameki_run_tape` is on a tape, its return address counted: it runs on a painted one.
+/// How deep the stack of `bulameki_run_tape` is on a tape, its return address counted.
 #[cfg(has_panel)]
 pub fn panel_stack(tape: &[u8]) -> usize {
-    const PAINT: u8 = 0xA5;
     let mut room = vec![0; room(tape)];
+    // SAFETY: the third is the pointer of a slice, the fourth its length.
+    unsafe { stack(bulameki_run_tape as *const (), tape, room.as_mut_ptr() as usize, room.len()) }
+}
+
+/// That of `bulameki_innermost`.
+#[cfg(has_panel)]
+pub fn innermost_stack(tape: &[u8], band: usize, side: u8) -> usize {
+    // SAFETY: the third and the fourth are plain numbers.
+    unsafe { stack(bulameki_innermost as *const (), tape, band, usize::from(side)) }
+}
+
+/// How deep the stack of a call with a tape and two further arguments is: it runs on a painted one.
+///
+/// # Safety
+/// It is a C function that takes the tape as pointer and length, then these two.
+#[cfg(has_panel)]
+unsafe fn stack(call: *const (), tape: &[u8], third: usize, fourth: usize) -> usize {
+    const PAINT: u8 = 0xA5;
     let mut stack = vec![PAINT; 1 << 20];
     let top = stack.as_mut_ptr_range().end as usize & !15;
-    // SAFETY: the pointers are those of slices of the lengths given; the call finds an aligned stack and leaves it as it was.
+    // SAFETY: the call finds an aligned stack and leaves it as it was.
     unsafe {
         std::arch::asm!(
             "mov r12, rsp",
             "mov rsp, {top}",
-            "call {run}",
+            "call {call}",
             "mov rsp, r12",
             top = in(reg) top,
-            run = sym bulameki_run_tape,
+            call = in(reg) call,
             in("rdi") tape.as_ptr(),
             in("rsi") tape.len(),
-            in("rdx") room.as_mut_ptr(),
-            in("rcx") room.len(),
+            in("rdx") third,
+            in("rcx") fourth,
             out("r12") _,
             clobber_abi("C"),
         );

@@ -1,10 +1,13 @@
-//! Runs tapes through an archive and the judge, compares every byte, and shrinks a tape on which they differ.
+//! Runs tapes through an archive and the judge, compares every byte and the boxes' numbers in the bands, and shrinks a tape on which they
+//! differ.
 
-use crate::archive::{difference, room, Runner};
+use crate::account::Account;
+use crate::archive::{difference, room, Innermost, Runner};
 use crate::float_counted::Band;
-use crate::judge::{Answer, Counts, Judge};
+use crate::judge::{self, Answer, Counts, Judge};
 use crate::tape::{self, body_length, bytes, Field, Record, BODIES, LONGEST, NONE};
 use std::fmt::Write;
+use std::ops::RangeInclusive;
 
 /// The rooms tried on each tape: to spare, exact, one short, none.
 fn rooms(need: usize) -> [usize; 4] {
@@ -19,9 +22,29 @@ pub struct Found {
 }
 
 fn first_difference(run: Runner, tape: &[u8], more: Option<usize>) -> Option<String> {
-    let lines = crate::judge::lines(tape);
+    let lines = judge::lines(tape);
     let rooms = rooms(lines.len()).into_iter().chain([room(tape)]);
     more.into_iter().chain(rooms).find_map(|room| difference(run, tape, &lines, room))
+}
+
+/// How the archive's number of a box differs from the account's, if it does: on both sides of each of these bands.
+pub fn other_box(
+    innermost: Innermost,
+    tape: &[u8],
+    account: &Account,
+    bands: impl IntoIterator<Item = usize>,
+) -> Option<String> {
+    let mut sides = bands.into_iter().flat_map(|band| [(band, 0), (band, 1)]);
+    sides.find_map(|(band, side)| {
+        let (answered, told) = (innermost(tape, band, side), account.told(band, side));
+        let differs = answered != told;
+        differs.then(|| format!("band {band}, side {side}: the archive answers box {answered}, the account has {told}"))
+    })
+}
+
+/// Every band, and the number after the last.
+pub fn every_band(account: &Account) -> RangeInclusive<usize> {
+    0..=account.bands().len()
 }
 
 /// The tape cut into its records; what begins no record is the last piece.
@@ -62,8 +85,8 @@ fn simpler(piece: &[u8]) -> Vec<Vec<u8>> {
 }
 
 /// The smallest tape found that still differs: records taken out, most at a time first, then numbers made simple.
-fn shrunk(run: Runner, tape: &[u8], more: Option<usize>) -> Vec<u8> {
-    let differs = |pieces: &[Vec<u8>]| first_difference(run, &pieces.concat(), more).is_some();
+fn shrunk(tape: &[u8], differs: impl Fn(&[u8]) -> bool) -> Vec<u8> {
+    let differs = |pieces: &[Vec<u8>]| differs(&pieces.concat());
     let mut best = pieces(tape);
     if tape.len() > LONGEST || !differs(&best) {
         return tape.to_vec();
@@ -99,27 +122,37 @@ fn shrunk(run: Runner, tape: &[u8], more: Option<usize>) -> Vec<u8> {
     }
 }
 
+/// Boxes up to which every band's numbers are compared after each placement. Where more stand, they are compared at the tape's end, and
+/// after each placement of one such tape in THOROUGH.
+const FEW: usize = 8;
+const THOROUGH: u64 = 32;
+
+const NOT_AGAIN: &str = "only on this tape, and not when run again";
+
 /// Compares tapes, and keeps count.
 pub struct Driver {
     /// none: the tapes are judged and counted, and nothing is compared
     run: Option<Runner>,
+    innermost: Option<Innermost>,
     pub tapes: u64,
     pub counts: Counts,
+    /// bands' sides of which the box's number was asked
+    pub touched: u64,
 }
 
 impl Driver {
-    pub fn new(run: Option<Runner>) -> Self {
-        Driver { run, tapes: 0, counts: Counts::default() }
+    pub fn new(run: Option<Runner>, innermost: Option<Innermost>) -> Self {
+        Driver { run, innermost, tapes: 0, counts: Counts::default(), touched: 0 }
     }
 
-    /// The lines of the tape, its answers counted.
-    fn judged(&mut self, tape: &[u8]) -> Vec<u8> {
+    /// The lines of the tape, its answers counted, and the account after it.
+    fn judged(&mut self, tape: &[u8]) -> (Vec<u8>, Account) {
         let mut judge = Judge::default();
         judge.counts = self.counts;
         let lines = judge.lines(tape);
         self.counts = judge.counts;
         self.tapes += 1;
-        lines
+        (lines, judge.account)
     }
 
     fn run(&mut self, tape: &[u8], lines: &[u8], room: usize) -> Result<(), Found> {
@@ -129,33 +162,55 @@ impl Driver {
             return Ok(());
         }
         let exact = (room + 8 < lines.len()).then_some(room);
-        let tape = shrunk(run, tape, exact);
-        let report = first_difference(run, &tape, exact).unwrap_or("only on this tape, and not when run again".into());
+        let tape = shrunk(tape, |tape| first_difference(run, tape, exact).is_some());
+        let report = first_difference(run, &tape, exact).unwrap_or(NOT_AGAIN.into());
+        Err(Found { tape, report })
+    }
+
+    /// The numbers of both sides of some bands after a tape, by the archive and by the account.
+    fn numbers(&mut self, tape: &[u8], account: &Account, bands: RangeInclusive<usize>) -> Result<(), Found> {
+        self.touched += 2 * bands.clone().count() as u64;
+        let Some(innermost) = self.innermost else { return Ok(()) };
+        if other_box(innermost, tape, account, bands).is_none() {
+            return Ok(());
+        }
+        let other = |tape: &[u8]| {
+            let account = judge::account(tape);
+            other_box(innermost, tape, &account, every_band(&account))
+        };
+        let tape = shrunk(tape, |tape| other(tape).is_some());
+        let report = other(&tape).unwrap_or(NOT_AGAIN.into());
         Err(Found { tape, report })
     }
 
     /// One tape, in a room to spare by a few bytes or, each fourth time, in one that is surely enough, where a tape is run once and
-    /// not counted first; and, each eighth time, in one that is a byte too short.
+    /// not counted first; and, each eighth time, in one that is a byte too short, and with the numbers of one band asked.
     pub fn tape(&mut self, tape: &[u8]) -> Result<(), Found> {
-        let lines = self.judged(tape);
+        let (lines, account) = self.judged(tape);
         let room = if self.tapes % 4 == 1 { room(tape) } else { lines.len() + (self.tapes % 9) as usize };
         self.run(tape, &lines, room)?;
         if self.tapes % 8 == 0 && !lines.is_empty() {
             self.run(tape, &lines, lines.len() - 1)?;
+        }
+        if self.tapes % 8 == 0 {
+            let band = (self.tapes / 8) as usize % (account.bands().len() + 1);
+            self.numbers(tape, &account, band..=band)?;
         }
         Ok(())
     }
 
     /// One tape in every room from none to one byte past the need.
     pub fn every_room(&mut self, tape: &[u8]) -> Result<(), Found> {
-        let lines = self.judged(tape);
+        let (lines, _) = self.judged(tape);
         (0..=lines.len() + 1).try_for_each(|room| self.run(tape, &lines, room))
     }
 
     /// The records with the whole page asked after every accepted placement. Where a tape grows too long, a new one begins with the
-    /// same records, without the questions asked so far.
+    /// same records, without the questions asked so far. The boxes' numbers in all bands are asked on tapes of their own: a question runs
+    /// its tape.
     pub fn asked(&mut self, records: &[Record]) -> Result<(), Found> {
         let mut judge = Judge::default();
+        let thorough = self.tapes % THOROUGH == 0;
         let mut tape = Vec::new();
         for (done, record) in records.iter().enumerate() {
             record.write(&mut tape);
@@ -171,17 +226,24 @@ impl Driver {
             tape.extend(asked);
             let answers: Vec<Answer> = questions.iter().map(|question| judge.answer(question)).collect();
             check_page(&judge.page.bands(), judge.page.width(), &answers);
+            if thorough || judge.boxes() <= FEW {
+                self.numbers(&bytes(&records[..=done]), &judge.account, every_band(&judge.account))?;
+            }
+        }
+        if !thorough && judge.boxes() > FEW {
+            self.numbers(&bytes(records), &judge.account, every_band(&judge.account))?;
         }
         self.tape(&tape)
     }
 
-    /// Tapes, placements, questions, and each refusal by its number.
+    /// Tapes, placements, questions, each refusal by its number, and the sides of bands whose box was asked.
     pub fn summary(&self) -> String {
         let Counts { placements, questions, refusals } = self.counts;
         let mut line = format!("{} tapes, {placements} placements, {questions} questions, refusals", self.tapes);
         for number in (1..=8).chain([13]) {
             write!(line, " {number}: {}", refusals[number]).unwrap();
         }
+        write!(line, ", boxes asked on {} sides of bands", self.touched).unwrap();
         line + if self.run.is_some() { ", differences 0" } else { ", no archive to compare with" }
     }
 }

@@ -1,7 +1,9 @@
-//! What the crate answers behind document 01's limits and refusals: every line of a tape, from the counted copy of float.rs.
+//! What the crate answers behind document 01's limits and refusals: every line of a tape, from the counted copy of float.rs; and which
+//! box stands innermost in a band, by the account kept beside it.
 
+use crate::account::Account;
 use crate::call::{Call, Placement, BANDS, BOXES, REACH};
-use crate::float_counted::{take_steps, FloatContext, FloatIntrinsicWidthCalculator};
+use crate::float_counted::{take_changes, take_steps, FloatContext, FloatIntrinsicWidthCalculator};
 use crate::tape::{record_at, Record, LONGEST};
 use crate::FloatDirection;
 
@@ -31,6 +33,7 @@ pub struct Counts {
 #[derive(Default)]
 pub struct Judge {
     pub page: FloatContext,
+    pub account: Account,
     calculator: Option<FloatIntrinsicWidthCalculator>,
     pub counts: Counts,
 }
@@ -47,7 +50,8 @@ impl Judge {
         answer
     }
 
-    fn boxes(&self) -> usize {
+    /// The accepted boxes of the page, those of no height counted.
+    pub fn boxes(&self) -> usize {
         self.page.left_floats().len() + self.page.right_floats().len()
     }
 
@@ -101,7 +105,7 @@ impl Judge {
         let mut trial = self.page.clone();
         take_steps();
         trial.place_floated_box(size, min_y, insets, side, clear);
-        let steps = take_steps();
+        let (steps, changes) = (take_steps(), take_changes());
         let placed = match side {
             FloatDirection::Left => trial.left_floats().last(),
             FloatDirection::Right => trial.right_floats().last(),
@@ -117,6 +121,7 @@ impl Judge {
             FloatDirection::Left => inset,
             FloatDirection::Right => trial.width() - inset - size.width,
         };
+        self.account.follow(&changes, self.boxes());
         self.page = trial;
         Ok(Answer::Placed { x, y, steps })
     }
@@ -142,6 +147,18 @@ impl Judge {
 /// The lines of a tape on a fresh page.
 pub fn lines(tape: &[u8]) -> Vec<u8> {
     Judge::default().lines(tape)
+}
+
+/// The account of the page after a tape, as far as it runs.
+pub fn account(tape: &[u8]) -> Account {
+    let mut judge = Judge::default();
+    judge.lines(tape);
+    judge.account
+}
+
+/// As `bulameki_innermost` has to answer.
+pub fn innermost(tape: &[u8], band: usize, side: u8) -> i64 {
+    account(tape).told(band, side)
 }
 
 impl Answer {

@@ -9,6 +9,8 @@ pub use shims::*;
 include!(concat!(env!("OUT_DIR"), "/oracle.rs"));
 
 #[cfg(has_taffy)]
+pub mod account;
+#[cfg(has_taffy)]
 pub mod answers;
 pub mod archive;
 pub mod boundaries;

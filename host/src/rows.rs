@@ -43,6 +43,8 @@ pub struct Row {
     pub records: usize,
     /// Archive and crate.
     pub sides: [Runner; 2],
+    /// Whether both answer the same; else the crate does its whole job where the archive answers for the page alone.
+    pub same: bool,
     pub with: Vec<Run>,
     pub without: Vec<Run>,
 }
@@ -140,6 +142,7 @@ fn last_quarter(name: &str, boxes: usize, page: impl Fn(usize, usize) -> Vec<Rec
         name: format!("{name}, page of {boxes}"),
         records: pages * (boxes - kept),
         sides: whole_job(),
+        same: true,
         with: vec![Run::sure(tape(boxes))],
         without: vec![Run::sure(tape(kept))],
     }
@@ -160,7 +163,7 @@ fn more(
     }
     let records = with.len() - without.len();
     let [with, without] = [with, without].map(|records| vec![Run::sure(bytes(&records))]);
-    Row { name: format!("{name}, page of {boxes}"), records, sides: whole_job(), with, without }
+    Row { name: format!("{name}, page of {boxes}"), records, sides: whole_job(), same: true, with, without }
 }
 
 fn slots(name: &str, boxes: usize, bfc: bool) -> Row {
@@ -193,11 +196,29 @@ fn refusals() -> [Row; 3] {
 
 fn repeated(name: &str, first: &[Record], again: &[Record]) -> Row {
     let tape = |times: usize| vec![Run::sure(bytes(&[first, &again.repeat(times)].concat()))];
-    Row { name: name.into(), records: RECORDS, sides: whole_job(), with: tape(2 * RECORDS), without: tape(RECORDS) }
+    let (with, without) = (tape(2 * RECORDS), tape(RECORDS));
+    Row { name: name.into(), records: RECORDS, sides: whole_job(), same: true, with, without }
 }
 
 fn whole(name: String, runs: Vec<Run>) -> Row {
-    Row { name: format!("whole job: {name}"), records: 1, sides: whole_job(), with: runs, without: vec![] }
+    Row { name: format!("whole job: {name}"), records: 1, sides: whole_job(), same: true, with: runs, without: vec![] }
+}
+
+/// A band in the middle of a page of 64.
+const LOOKED: usize = 32;
+
+/// `bulameki_innermost` of it as a Runner: a run of the tape, and a look.
+fn look(tape: &[u8], _: &mut [u8]) -> i64 {
+    archive::innermost().expect("linked")(tape, LOOKED, 0)
+}
+
+/// Which box stands innermost, beside the whole job on the same tape.
+fn innermost(boxes: usize) -> Row {
+    let tape = bytes(&page(0, boxes));
+    assert_eq!(look(&tape, &mut []), judge::innermost(&tape, LOOKED, 0), "the innermost box");
+    let name = format!("which box is innermost after a page of {boxes}; crate: the whole job");
+    let with = vec![Run::sure(tape)];
+    Row { name, records: 1, sides: [look, job::run], same: false, with, without: vec![] }
 }
 
 /// Pages of 64 with questions, as many as a tape takes.
@@ -222,6 +243,7 @@ fn kept(by: &str, by_archive: Runner, boxes: usize) -> Row {
         name: format!("a placement on a page kept by {by}, page of {boxes}"),
         records: boxes - before,
         sides: [by_archive, kept::by_crate],
+        same: true,
         with: run(boxes),
         without: run(before),
     }
@@ -243,6 +265,8 @@ pub fn rows() -> Vec<Row> {
         let name = format!("a page of {boxes}, {} questions", 2 * boxes);
         rows.push(whole(name, vec![Run::sure(asked(0, boxes))]));
     }
+    rows.push(whole(format!("a page of {full}, no question"), vec![Run::sure(bytes(&page(0, full)))]));
+    rows.push(innermost(full));
     let between = format!("a page of {full}, two questions after each box");
     rows.push(whole(between, vec![Run::sure(bytes(&asked_between(0, full)))]));
     let exact = format!("a page of {full}, {} questions, no room to spare", 2 * full);

@@ -1,4 +1,4 @@
-//! The archive beside the crate: every line of every tape, and the whole page by asking. HOST_TAPES=N runs N random tapes, HOST_SEED=N others.
+//! The archive beside the crate: every line of every tape, the whole page by asking, and the boxes' numbers in its bands. HOST_TAPES=N runs N random tapes, HOST_SEED=N others.
 #![cfg(has_taffy)]
 
 use host::archive;
@@ -57,7 +57,7 @@ fn archive_and_crate_agree() {
     let seed = from_environment("HOST_SEED").unwrap_or(1);
     let count = from_environment("HOST_TAPES").unwrap_or(TAPES);
     let started = Instant::now();
-    let mut driver = Driver::new(archive::panel());
+    let mut driver = Driver::new(archive::panel(), archive::innermost());
     let outcome = fixed(&mut driver).and_then(|()| random(&mut driver, &mut Random(seed), count));
     if let Err(found) = outcome {
         let text = tape::text(&found.tape);
@@ -68,6 +68,7 @@ fn archive_and_crate_agree() {
     if count >= TAPES {
         let counts = driver.counts;
         assert!(counts.placements >= 1_000_000 && counts.questions >= 1_000_000, "{}", driver.summary());
+        assert!(driver.touched >= 200_000, "{}", driver.summary());
         assert!((1..=8).chain([13]).all(|number| counts.refusals[number] > 0), "{}", driver.summary());
     }
 }

@@ -1,8 +1,11 @@
-//! The archive at each constant of document 01: the end of each answer is told, and all of it is the crate's, where it is at hand.
+//! The archive at each constant of document 01: the end of each answer is told, and all of it is the crate's, where it is at hand; so are
+//! the boxes' numbers in the bands.
 #![cfg(has_panel)]
 
 use host::archive;
 use host::boundaries::{self, Case};
+#[cfg(has_taffy)]
+use host::driver::{every_band, other_box};
 use host::tape;
 
 fn check(name: &str, case: &Case) {
@@ -21,11 +24,17 @@ fn check(name: &str, case: &Case) {
         assert!(same, "{name}: {last:?} and not {:?}, of\n{}", case.told, tape::text(&case.tape));
     }
     #[cfg(has_taffy)]
-    assert!(
-        answer.as_bytes() == host::judge::lines(&case.tape),
-        "{name}: the crate answers otherwise than {last:?}, of\n{}",
-        tape::text(&case.tape)
-    );
+    {
+        let tape = &case.tape;
+        assert!(
+            answer.as_bytes() == host::judge::lines(tape),
+            "{name}: the crate answers otherwise than {last:?}, of\n{}",
+            tape::text(tape)
+        );
+        let account = host::judge::account(tape);
+        let other = other_box(archive::innermost().unwrap(), tape, &account, every_band(&account));
+        assert!(other.is_none(), "{name}: {}, of\n{}", other.unwrap(), tape::text(tape));
+    }
 }
 
 #[test]

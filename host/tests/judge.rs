@@ -1,6 +1,7 @@
 //! The judge on document 01's own words: its tape, its twelve examples, each refusal at its edge. And the driver on archives with a fault.
 #![cfg(has_taffy)]
 
+use host::archive::{Innermost, Runner, NO_BOX};
 use host::driver::Driver;
 use host::judge;
 use host::random::Random;
@@ -212,8 +213,11 @@ fn answer(tape: &[u8], room: &mut [u8], wrong: fn(String) -> String) -> i64 {
 }
 
 /// The smallest tape on which the driver finds the archive wrong, as text.
-fn found(run: host::archive::Runner) -> Option<String> {
-    let mut driver = Driver::new(Some(run));
+fn found(run: Runner) -> Option<String> {
+    found_by(Driver::new(Some(run), None))
+}
+
+fn found_by(mut driver: Driver) -> Option<String> {
     let mut random = Random(5);
     for _ in 0..400 {
         let records = tapes::mixed(&mut random);
@@ -253,4 +257,24 @@ fn a_fault_is_found_and_shrunk() {
     };
     assert_eq!(found(early).unwrap().lines().count(), 1);
     assert_eq!(found(|tape, room| answer(tape, room, |lines| lines) + 1).unwrap(), "");
+}
+
+#[test]
+fn another_box_is_found_and_shrunk() {
+    let found = |innermost: Innermost| found_by(Driver::new(None, Some(innermost)));
+    assert_eq!(found(judge::innermost), None);
+    let records = |innermost: Innermost| found(innermost).unwrap().lines().count();
+    // the other side's box; the one in the band below; no box for the second; a box below all bands
+    assert_eq!(records(|tape, band, side| judge::innermost(tape, band, 1 - side)), 1);
+    assert_eq!(records(|tape, band, side| judge::innermost(tape, band + 1, side)), 1);
+    let no_second = |tape: &[u8], band, side| match judge::innermost(tape, band, side) {
+        1 => NO_BOX,
+        number => number,
+    };
+    assert_eq!(records(no_second), 2);
+    let below = |tape: &[u8], band, side| match judge::innermost(tape, band, side) {
+        NO_BOX if band == judge::account(tape).bands().len() => 0,
+        number => number,
+    };
+    assert_eq!(records(below), 0);
 }

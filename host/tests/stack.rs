@@ -1,7 +1,7 @@
-//! The stack that the C header says a call takes is the one that it takes.
+//! The stack that the C header says a call takes at most, of either function, is the one that it takes.
 #![cfg(has_panel)]
 
-use host::archive::panel_stack;
+use host::archive::{innermost_stack, panel_stack};
 use host::stored;
 use std::path::Path;
 
@@ -16,11 +16,13 @@ fn said() -> usize {
 fn is_as_the_header_says() {
     let file = Path::new(env!("CARGO_MANIFEST_DIR")).join("../crates/replay/stdin");
     let tapes = stored::read(&std::fs::read(file).unwrap()).expect("crates/replay/stdin breaks off");
-    let deepest = tapes.iter().step_by(10).map(|(tape, _)| panel_stack(tape)).max().unwrap();
-    assert!(deepest > 0);
+    let some = || tapes.iter().step_by(10).map(|(tape, _)| tape);
+    let run = some().map(|tape| panel_stack(tape)).max().unwrap();
+    let asked = some().map(|tape| innermost_stack(tape, 1, 0)).max().unwrap();
+    assert!(run > 0 && asked > 0);
     assert_eq!(
         said(),
-        deepest,
-        "BULAMEKI_STACK of include/bulameki.h, and what each tenth of the stored tapes takes at most"
+        run.max(asked),
+        "BULAMEKI_STACK of include/bulameki.h, and what each tenth of the stored tapes takes at most: run {run}, asked {asked}"
     );
 }

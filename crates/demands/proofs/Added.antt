@@ -53,4 +53,4 @@ pub place-more : (p : Page) (c : Call) → length (place p c .page .bands) ≤ l
 place-more p c =
     let d = cleaned c in
     let m = make (askOf p d) (p .bands) (spotOf p d) in
-    place-ways (λ r. More (p .bands) 2 (r .page .bands)) p c (λ n. omega arith) (omega arith) (omega (arith, length-mark (sideOf (c .side)) (add binary32 (spotOf p d .inset) (d .width)) (m .bands) (m .start) (m .end), two-more (askOf p d) (p .bands) (spotOf p d)))
+    place-ways (λ r. More (p .bands) 2 (r .page .bands)) p c (λ n. omega arith) (omega arith) (omega (arith, length-mark (sideOf (c .side)) (add binary32 (spotOf p d .inset) (d .width)) (length (p .boxes)) (m .bands) (m .start) (m .end), two-more (askOf p d) (p .bands) (spotOf p d)))

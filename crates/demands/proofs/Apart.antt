@@ -22,14 +22,14 @@ use Rattle.float.specs.declared.Segment.{Segment}
 use Rattle.float.specs.declared.fit.Ask.{Ask}
 use Rattle.float.specs.declared.search.Spot.{Spot}
 use Rattle.float.specs.Numbers.{inReach}
-use Rattle.float.specs.Bands.{sameSide, other, lead, none, markAll}
+use Rattle.float.specs.Bands.{sameSide, other, lead, hasFloat, none, markAll}
 use Rattle.float.specs.Page.{Page, maxBands}
 use Rattle.float.specs.Fit.{placedAt}
 use Rattle.float.specs.Place.{Call, Result, Made, make, recorded, counted, askOf, firstOf, xOf, near, high, flat, put}
-use Rattle.demands.specs.Runs.{Each, Pairs, Accepted, noted, insetAt, sideIn, containingTrail, bottom}
+use Rattle.demands.specs.Runs.{Each, Pairs, Accepted, noted, sideIn, containingTrail, bottom}
 use Rattle.demands.proofs.Laws.{k, B, Val, Ins, zero-k, ins-zero, ins-val, sum-ins}
-use Rattle.demands.proofs.Chain.{chain-mark, length-mark, mark-in, mark-start, mark-end}
-use Rattle.demands.proofs.Heights.{at-band}
+use Rattle.demands.proofs.Chain.{chain-mark, length-mark, mark-in, mark-float, mark-start, mark-end}
+use Rattle.demands.proofs.Heights.{nothing-lead, bandAt, at-band}
 use Rattle.demands.proofs.Whole.{Inv, Step, last-inset}
 use Rattle.demands.proofs.Seek.{Found}
 use Rattle.demands.proofs.Make.{MadeOk, make-ok}
@@ -42,9 +42,13 @@ use Rattle.demands.proofs.Bands64.{Band64, mark64, count64, make64, dee
 abbrev pub Inside : Accepted → Float → Type 0
 Inside a t = (k (a .y) ≤ k t) × (k t < k (bottom a))
 
--- at the box's heights its side's inset reaches to its far edge
+-- a band that the box takes: its side's inset reaches to the far edge, and is marked
+abbrev pub Takes : Segment → Accepted → Type 0
+Takes b a = (k (add binary32 (a .inset) (a .call .width)) ≤ k (lead (sideIn a) b)) × T (hasFloat (sideIn a) b)
+
+-- it takes the band at each of its heights
 abbrev pub Stands : List Segment → Accepted → Type 0
-Stands l a = (t : Float) → Num binary32 t → Inside a t → k (add binary32 (a .inset) (a .call .width)) ≤ k (insetAt (sideIn a) t l)
+Stands l a = (t : Float) → Num binary32 t → Inside a t → Takes (bandAt t l) a
 
 -- exactly: on one side the later begins where the earlier ends or after, and keeps out of the containing trail inset; on two sides both have room on the page
 abbrev pub Clear : Bool → Float → Accepted → Accepted → Type 0
@@ -132,8 +136,8 @@ module _ (p : Page) (g : List Accepted) (c : Call) (v : Inv64 p g) (q : Ask64 (a
       up = omega (arith, sum-exact (d .inset) (d .width), d .inset' .low)
 
       go : Met ask q (p .bands) (v .inv .chain) (v .bands) (firstOf p) y0 s f t → Shared b
-      go (inl e) = absurd (not-suc-le-zero {n = 0} (omega (arith, up, st t n x, ap k (e (sideIn b)), zero-k)))
-      go (inr e) = let j = e .1 in (e .0, up, (j .0, j .1, j .2, j .3, omega (arith, st t n x, ap k (j .4 (sideIn b)))))
+      go (inl e) = absurd (not-suc-le-zero {n = 0} (omega (arith, up, st t n x .0, ap (λ (z : Segment). k (lead (sideIn b) z)) e, ap k (nothing-lead (sideIn b)), zero-k)))
+      go (inr e) = let j = e .1 in (e .0, up, (j .0, j .1, j .2, j .3, omega (arith, st t n x .0, ap (λ (z : Segment). k (lead (sideIn b) z)) (j .4))))
 
   clear-new : (b : Accepted) → Box64 b × Stands (p .bands) b → Beside (p .width) b (entry (M .y))
   unfolding placedAt
@@ -176,13 +180,17 @@ module _ (p : Page) (g : List Accepted) (c : Call) (v : Inv64 p g) (q : Ask64 (a
   stands-new o iv t n x =
       let r = ask .side in
       let e = add binary32 (s .inset) (c .width) in
-      let l = markAll r e (M .bands) (M .start) (M .end) in
+      let num = length (p .boxes) in
+      let l = markAll r e num (M .bands) (M .start) (M .end) in
       let d = deep ask q (p .bands) (v .inv .chain) (v .bands) (firstOf p) y0 s f in
-      let w = at-band (inf true) l t (M .start) (M .end) (chain-mark r e (inf true) (M .bands) (M .start) (M .end) iv (o .chain)) n
-      (omega (arith, ap k (mark-start r e (M .bands) (M .start) (M .end) (M .start)), o .top, x .0))
-      (omega (arith, ap k (mark-end r e (M .bands) (M .start) (M .end) (M .end)), o .bottom (λ h. d (omega (arith, f .order)) h), x .1))
-      (o .order) (omega (arith, length-mark r e (M .bands) (M .start) (M .end), o .last)) in
-      omega (arith, ap k (w .3 r), ap k (mark-in r e (M .bands) (M .start) (M .end) (w .0) (w .1) (w .2) (omega (arith, w .2, o .last))))
+      let w = at-band (inf true) l t (M .start) (M .end) (chain-mark r e num (inf true) (M .bands) (M .start) (M .end) iv (o .chain)) n
+      (omega (arith, ap k (mark-start r e num (M .bands) (M .start) (M .end) (M .start)), o .top, x .0))
+      (omega (arith, ap k (mark-end r e num (M .bands) (M .start) (M .end) (M .end)), o .bottom (λ h. d (omega (arith, f .order)) h), x .1))
+      (o .order) (omega (arith, length-mark r e num (M .bands) (M .start) (M .end), o .last)) in
+      let j : w .0 < length (M .bands) = omega (arith, w .2, o .last) in (
+        omega (arith, ap (λ (z : Segment). k (lead r z)) (w .3), ap k (mark-in r e num (M .bands) (M .start) (M .end) (w .0) (w .1) (w .2) j)),
+        subst T (sym (ap (hasFloat r) (w .3) ∙ mark-float r e num (M .bands) (M .start) (M .end) (w .0) (w .1) (w .2) j)) tt,
+      )
 
   abbrev After : Result → Type 0
   After r = Step p g c r → Inv64 (r .page) (noted (r .answer) c (r .page) g)
@@ -209,9 +217,9 @@ module _ (p : Page) (g : List Accepted) (c : Call) (v : Inv64 p g) (q : Ask64 (a
       let z = make64 ask q (p .bands) s (v .inv .chain) (v .bands) (f .y) (f .y-ok) x (made .0 .0) in
       let e = edge (M .y) u in
       both After (leb (length (M .bands)) maxBands)
-      (λ w st. entered (recorded p ask (s .inset) M) (M .y) (λ i. counted64 (recorded p ask (s .inset) M) g ask (s .inset) (M .y) (entry (M .y)) i (v .width) (mark64 (ask .side) (add binary32 (s .inset) (c .width)) (M .bands) (M .start) (M .end) e (z .0)) (v .bottom) (v .ceiling) (z .1) (q-sum (z .1) (q .height) (made .0 .0) (q .asked .height) x)
+      (λ w st. entered (recorded p ask (s .inset) M) (M .y) (λ i. counted64 (recorded p ask (s .inset) M) g ask (s .inset) (M .y) (entry (M .y)) i (v .width) (mark64 (ask .side) (add binary32 (s .inset) (c .width)) (length (p .boxes)) (M .bands) (M .start) (M .end) e (z .0)) (v .bottom) (v .ceiling) (z .1) (q-sum (z .1) (q .height) (made .0 .0) (q .asked .height) x)
       (v .boxes) (entry64 (M .y) (z .1) (made .0 .0) e)
-      (each-map (Stands (p .bands)) (Stands (recorded p ask (s .inset) M .bands)) g (λ b h t' n i. omega (arith, h t' n i, st .grows (sideIn b) t' n)) (v .stands))
+      (each-map (Stands (p .bands)) (Stands (recorded p ask (s .inset) M .bands)) g (λ b h t' n i. let o = st .grows t' n in (omega (arith, h t' n i .0, o .inset (sideIn b)), o .mark (sideIn b) (h t' n i .1))) (v .stands))
       (stands-new d (sum-ins (f .inset) (q .asked .width) x')) (v .beside)
       (each-map (λ b. Box64 b × Stands (p .bands) b) (λ b. Beside (p .width) b (entry (M .y))) g clear-new (each-both Box64 (Stands (p .bands)) g (v .boxes) (v .stands)))) st)
       (λ w st. v))

@@ -23,10 +23,10 @@ use Rattle.float.specs.declared.search.Spot.{Spot}
 use Rattle.float.specs.Numbers.{inReach}
 use Rattle.float.specs.Bands.{lead, none, bare, marked, splitAt, markAll, lastEnd}
 use Rattle.float.specs.Place.{Made, seed, endOf, gapped, walked, startedAt, make}
-use Rattle.demands.specs.Runs.{Each, insetAt}
+use Rattle.demands.specs.Runs.{Each}
 use Rattle.demands.proofs.Laws.{k, far-twice, Val, Ins, Top, on-either, top-low}
-use Rattle.demands.proofs.Chain.{Chain, chain-at, chain-next, chain-last, last-is}
-use Rattle.demands.proofs.Heights.{at-band, at-below}
+use Rattle.demands.proofs.Chain.{Chain, chain-at, chain-next, chain-last, last-is, each-split, each-mark}
+use Rattle.demands.proofs.Heights.{nothing, bandAt, at-band, at-below}
 use Rattle.demands.proofs.Splits.{started-ways, make-ways}
 use Rattle.demands.proofs.Seek.{Count, Found}
 use Rattle.demands.proofs.Make.{seed-has, started-y}
@@ -43,22 +43,14 @@ band-at (b ∷ bs) zero p h = p .0
 band-at (b ∷ bs) (suc i) p h = band-at bs i (p .1) (le-of-suc-le-suc h)
 
 split64 : (l : List Segment) (i : ℕ) (y : Float) → Each Band64 l → Q y → Each Band64 (splitAt l i y)
-unfolding splitAt
-split64 [] i y p q = tt
-split64 (b ∷ bs) zero y p q = (record { end = q; inset = p .0 .inset }, (record { end = p .0 .end; inset = p .0 .inset }, p .1))
-split64 (b ∷ bs) (suc i) y p q = (p .0, split64 bs i y (p .1) q)
+split64 l i y p q = each-split Band64 y (λ b h. (record { end = q; inset = h .inset }, record { end = h .end; inset = h .inset })) l i p
 
-marked64 : (r : FloatDirection) {v : Float} {b : Segment} → Q v → Band64 b → Band64 (marked r v b)
-marked64 FloatDirection.Left q p = record { end = p .end; inset = λ s. on-either Q s q (p .inset FloatDirection.Right) }
-marked64 FloatDirection.Right q p = record { end = p .end; inset = λ s. on-either Q s (p .inset FloatDirection.Left) q }
+marked64 : (r : FloatDirection) (num : ℕ) {v : Float} {b : Segment} → Q v → Band64 b → Band64 (marked r v num b)
+marked64 FloatDirection.Left num q p = record { end = p .end; inset = λ s. on-either Q s q (p .inset FloatDirection.Right) }
+marked64 FloatDirection.Right num q p = record { end = p .end; inset = λ s. on-either Q s (p .inset FloatDirection.Left) q }
 
-pub mark64 : (r : FloatDirection) (v : Float) (l : List Segment) (s e : ℕ) → Q v → Each Band64 l → Each Band64 (markAll r v l s e)
-unfolding markAll
-mark64 r v [] s e q p = tt
-mark64 r v (b ∷ bs) zero zero q p = (marked64 r q (p .0), p .1)
-mark64 r v (b ∷ bs) zero (suc e) q p = (marked64 r q (p .0), mark64 r v bs zero e q (p .1))
-mark64 r v (b ∷ bs) (suc s) zero q p = p
-mark64 r v (b ∷ bs) (suc s) (suc e) q p = (p .0, mark64 r v bs s e q (p .1))
+pub mark64 : (r : FloatDirection) (v : Float) (num : ℕ) (l : List Segment) (s e : ℕ) → Q v → Each Band64 l → Each Band64 (markAll r v num l s e)
+mark64 r v num l s e q p = each-mark Band64 r v num (λ b h. marked64 r num q h) l s e p
 
 chain-first : (x : Float) (l : List Segment) → Chain x l → 0 < length l → getD l 0 none .start ≡ x
 chain-first x [] c h = absurd (not-suc-le-zero h)
@@ -181,9 +173,9 @@ module _ (a : Ask) (q : Ask64 a) where
     pub deep : p .start < length l → p .end < length l → k (add binary32 (p .y) (a .height)) ≤ k (getD l (p .end) none .end)
     deep h o = let w = f .fit h .deep o in way-deep l c d (p .end) (p .y) (w .0) (a .height) (q .height) (q .asked .height) (w .1) (w .2)
 
-    -- at the height t there is no inset, or that of a band from the start to the end
+    -- at the height t there is no band, or one from the start to the end
     abbrev pub Met : Float → Type 0
-    Met t = ((r : FloatDirection) → insetAt r t l ≡ zero+) ⊎ ((p .start < length l) × ((j : ℕ) × (p .start ≤ j) × (j ≤ p .end) × (j < length l) × ((r : FloatDirection) → insetAt r t l ≡ lead r (getD l j none))))
+    Met t = (bandAt t l ≡ nothing) ⊎ ((p .start < length l) × ((j : ℕ) × (p .start ≤ j) × (j ≤ p .end) × (j < length l) × (bandAt t l ≡ getD l j none)))
 
     -- so it is at every height of the box
     pub beside : (t : Float) → Num binary32 t → k (make a l p .y) ≤ k t → k t < k (add binary32 (make a l p .y) (a .height)) → Met t
@@ -193,7 +185,7 @@ module _ (a : Ask) (q : Ask64 a) where
         lt' = chain-last (inf true) l top-low c
 
         go : Dec (length l ≤ p .start) → Met t
-        go (yes h) = inl (λ r. at-below (inf true) l t r c n (λ o. omega (arith, ap k (make-y l p .1 h), larger-key (lt' .num) (f .y .num))))
+        go (yes h) = inl (at-below (inf true) l t c n (λ o. omega (arith, ap k (make-y l p .1 h), larger-key (lt' .num) (f .y .num))))
         go (no h') = on (decLe (length l) (p .end))
           where
             h : p .start < length l
@@ -212,7 +204,7 @@ module _ (a : Ask) (q : Ask64 a) where
             on (yes o) = past (decLe (k (endOf l)) (k t))
               where
                 past : Dec (k (endOf l) ≤ k t) → Met t
-                past (yes m) = inl (λ r. at-below (inf true) l t r c n (λ o. m))
+                past (yes m) = inl (at-below (inf true) l t c n (λ o. m))
                 past (no m) =
                     let w = at-band (inf true) l t (p .start) (length l - 1) c n from (omega (arith, ap k (last-is (inf true) l (length l - 1) (omega arith)))) (omega arith) (omega arith) in
                     inr (h, (w .0, w .1, omega (arith, w .2), omega (arith, w .2), w .3))

@@ -3,12 +3,14 @@ use mathlib.Core.Path.{_≡_, refl, sym, ap, _∙_, subst}
 use Prim.Native.Nat.{ℕ, zero, suc, _≤_, _<_}
 use native.Mathlib.Nat.{le-of-suc-le-suc, not-suc-le-zero}
 use native.Mathlib.Omega.{arith}
+use mathlib.Core.Bool.{true}
 use mathlib.Core.List.{List, [], _∷_, _++_}
 use lib.Ieee.{Float}
 use lib.ListN.{length, getD}
 use Rattle.float.specs.declared.FloatDirection.{FloatDirection}
 use Rattle.float.specs.declared.Segment.{Segment}
-use Rattle.float.specs.Bands.{other, lead, none, marked, splitAt, markAll, lastEnd}
+use Rattle.float.specs.Bands.{other, lead, hasFloat, none, spanning, marked, splitAt, markAll, lastEnd}
+use Rattle.demands.specs.Runs.{Each}
 use Rattle.demands.proofs.Laws.{k, Val, Ins, Top, val-top}
 
 -- a band whose numbers are in order
@@ -68,39 +70,43 @@ chain-split x (b ∷ bs) zero y c v h g = (
 )
 chain-split x (b ∷ bs) (suc i) y c v h g = (c .0, c .1, chain-split (b .end) bs i y (c .2) v h g)
 
-marked-sound : (r : FloatDirection) {v : Float} {b : Segment} → Ins v → Sound b → Sound (marked r v b)
-marked-sound FloatDirection.Left p s = record { start = s .start; end = s .end; inset = λ q. elim q [ FloatDirection.Left ↦ p | FloatDirection.Right ↦ s .inset FloatDirection.Right ]; order = s .order }
-marked-sound FloatDirection.Right p s = record { start = s .start; end = s .end; inset = λ q. elim q [ FloatDirection.Left ↦ s .inset FloatDirection.Left | FloatDirection.Right ↦ p ]; order = s .order }
+marked-sound : (r : FloatDirection) (num : ℕ) {v : Float} {b : Segment} → Ins v → Sound b → Sound (marked r v num b)
+marked-sound FloatDirection.Left num p s = record { start = s .start; end = s .end; inset = λ q. elim q [ FloatDirection.Left ↦ p | FloatDirection.Right ↦ s .inset FloatDirection.Right ]; order = s .order }
+marked-sound FloatDirection.Right num p s = record { start = s .start; end = s .end; inset = λ q. elim q [ FloatDirection.Left ↦ s .inset FloatDirection.Left | FloatDirection.Right ↦ p ]; order = s .order }
 
-marked-start : (r : FloatDirection) (v : Float) (b : Segment) → marked r v b .start ≡ b .start
-marked-start FloatDirection.Right v b = refl
-marked-start FloatDirection.Left v b = refl
+marked-start : (r : FloatDirection) (v : Float) (num : ℕ) (b : Segment) → marked r v num b .start ≡ b .start
+marked-start FloatDirection.Right v num b = refl
+marked-start FloatDirection.Left v num b = refl
 
-pub marked-end : (r : FloatDirection) (v : Float) (b : Segment) → marked r v b .end ≡ b .end
-marked-end FloatDirection.Right v b = refl
-marked-end FloatDirection.Left v b = refl
+pub marked-end : (r : FloatDirection) (v : Float) (num : ℕ) (b : Segment) → marked r v num b .end ≡ b .end
+marked-end FloatDirection.Right v num b = refl
+marked-end FloatDirection.Left v num b = refl
 
-marked-lead : (r : FloatDirection) (v : Float) (b : Segment) → lead r (marked r v b) ≡ v
-marked-lead FloatDirection.Right v b = refl
-marked-lead FloatDirection.Left v b = refl
+marked-lead : (r : FloatDirection) (v : Float) (num : ℕ) (b : Segment) → lead r (marked r v num b) ≡ v
+marked-lead FloatDirection.Right v num b = refl
+marked-lead FloatDirection.Left v num b = refl
 
-marked-trail : (r : FloatDirection) (v : Float) (b : Segment) → lead (other r) (marked r v b) ≡ lead (other r) b
-marked-trail FloatDirection.Right v b = refl
-marked-trail FloatDirection.Left v b = refl
+marked-float : (r : FloatDirection) (v : Float) (num : ℕ) (b : Segment) → hasFloat r (marked r v num b) ≡ true
+marked-float FloatDirection.Right v num b = refl
+marked-float FloatDirection.Left v num b = refl
 
-module _ (r : FloatDirection) (v : Float) where
-  mark-head : (x : Float) (b : Segment) (bs bs' : List Segment) → Ins v → Chain x (b ∷ bs) → Chain (b .end) bs' → Chain x (marked r v b ∷ bs')
-  mark-head x b bs bs' p c d = (marked-start r v b ∙ c .0, marked-sound r p (c .1), subst (λ (z : Float). Chain z bs') (sym (marked-end r v b)) d)
+marked-trail : (r : FloatDirection) (v : Float) (num : ℕ) (b : Segment) → lead (other r) (marked r v num b) ≡ lead (other r) b
+marked-trail FloatDirection.Right v num b = refl
+marked-trail FloatDirection.Left v num b = refl
 
-  pub chain-mark : (x : Float) (l : List Segment) (s e : ℕ) → Ins v → Chain x l → Chain x (markAll r v l s e)
+module _ (r : FloatDirection) (v : Float) (num : ℕ) where
+  mark-head : (x : Float) (b : Segment) (bs bs' : List Segment) → Ins v → Chain x (b ∷ bs) → Chain (b .end) bs' → Chain x (marked r v num b ∷ bs')
+  mark-head x b bs bs' p c d = (marked-start r v num b ∙ c .0, marked-sound r num p (c .1), subst (λ (z : Float). Chain z bs') (sym (marked-end r v num b)) d)
+
+  pub chain-mark : (x : Float) (l : List Segment) (s e : ℕ) → Ins v → Chain x l → Chain x (markAll r v num l s e)
   unfolding markAll
   chain-mark x [] s e p c = c
   chain-mark x (b ∷ bs) zero zero p c = mark-head x b bs bs p c (c .2)
-  chain-mark x (b ∷ bs) zero (suc e) p c = mark-head x b bs (markAll r v bs zero e) p c (chain-mark (b .end) bs zero e p (c .2))
+  chain-mark x (b ∷ bs) zero (suc e) p c = mark-head x b bs (markAll r v num bs zero e) p c (chain-mark (b .end) bs zero e p (c .2))
   chain-mark x (b ∷ bs) (suc s) zero p c = c
   chain-mark x (b ∷ bs) (suc s) (suc e) p c = (c .0, c .1, chain-mark (b .end) bs s e p (c .2))
 
-  pub length-mark : (l : List Segment) (s e : ℕ) → length (markAll r v l s e) ≡ length l
+  pub length-mark : (l : List Segment) (s e : ℕ) → length (markAll r v num l s e) ≡ length l
   unfolding markAll
   length-mark [] s e = refl
   length-mark (b ∷ bs) zero zero = refl
@@ -108,30 +114,36 @@ module _ (r : FloatDirection) (v : Float) where
   length-mark (b ∷ bs) (suc s) zero = refl
   length-mark (b ∷ bs) (suc s) (suc e) = ap suc (length-mark bs s e)
 
-  pub mark-trail : (l : List Segment) (s e i : ℕ) → lead (other r) (getD (markAll r v l s e) i none) ≡ lead (other r) (getD l i none)
+  pub mark-trail : (l : List Segment) (s e i : ℕ) → lead (other r) (getD (markAll r v num l s e) i none) ≡ lead (other r) (getD l i none)
   unfolding markAll
   mark-trail [] s e i = refl
-  mark-trail (b ∷ bs) zero zero zero = marked-trail r v b
+  mark-trail (b ∷ bs) zero zero zero = marked-trail r v num b
   mark-trail (b ∷ bs) zero zero (suc i) = refl
-  mark-trail (b ∷ bs) zero (suc e) zero = marked-trail r v b
+  mark-trail (b ∷ bs) zero (suc e) zero = marked-trail r v num b
   mark-trail (b ∷ bs) zero (suc e) (suc i) = mark-trail bs zero e i
   mark-trail (b ∷ bs) (suc s) zero i = refl
   mark-trail (b ∷ bs) (suc s) (suc e) zero = refl
   mark-trail (b ∷ bs) (suc s) (suc e) (suc i) = mark-trail bs s e i
 
-  pub mark-in : (l : List Segment) (s e i : ℕ) → s ≤ i → i ≤ e → i < length l → lead r (getD (markAll r v l s e) i none) ≡ v
+  mark-at : (l : List Segment) (s e i : ℕ) → s ≤ i → i ≤ e → i < length l → getD (markAll r v num l s e) i none ≡ marked r v num (getD l i none)
   unfolding markAll
-  mark-in [] s e i a b h = absurd (not-suc-le-zero h)
-  mark-in (b ∷ bs) zero zero zero a d h = marked-lead r v b
-  mark-in (b ∷ bs) zero zero (suc i) a d h = absurd (not-suc-le-zero d)
-  mark-in (b ∷ bs) zero (suc e) zero a d h = marked-lead r v b
-  mark-in (b ∷ bs) zero (suc e) (suc i) a d h = mark-in bs zero e i (omega arith) (le-of-suc-le-suc d) (le-of-suc-le-suc h)
-  mark-in (b ∷ bs) (suc s) zero zero a d h = absurd (not-suc-le-zero a)
-  mark-in (b ∷ bs) (suc s) zero (suc i) a d h = absurd (not-suc-le-zero d)
-  mark-in (b ∷ bs) (suc s) (suc e) zero a d h = absurd (not-suc-le-zero a)
-  mark-in (b ∷ bs) (suc s) (suc e) (suc i) a d h = mark-in bs s e i (le-of-suc-le-suc a) (le-of-suc-le-suc d) (le-of-suc-le-suc h)
+  mark-at [] s e i a b h = absurd (not-suc-le-zero h)
+  mark-at (b ∷ bs) zero zero zero a d h = refl
+  mark-at (b ∷ bs) zero zero (suc i) a d h = absurd (not-suc-le-zero d)
+  mark-at (b ∷ bs) zero (suc e) zero a d h = refl
+  mark-at (b ∷ bs) zero (suc e) (suc i) a d h = mark-at bs zero e i (omega arith) (le-of-suc-le-suc d) (le-of-suc-le-suc h)
+  mark-at (b ∷ bs) (suc s) zero zero a d h = absurd (not-suc-le-zero a)
+  mark-at (b ∷ bs) (suc s) zero (suc i) a d h = absurd (not-suc-le-zero d)
+  mark-at (b ∷ bs) (suc s) (suc e) zero a d h = absurd (not-suc-le-zero a)
+  mark-at (b ∷ bs) (suc s) (suc e) (suc i) a d h = mark-at bs s e i (le-of-suc-le-suc a) (le-of-suc-le-suc d) (le-of-suc-le-suc h)
 
-  pub mark-after : (l : List Segment) (s e i : ℕ) → e < i → getD (markAll r v l s e) i none ≡ getD l i none
+  pub mark-in : (l : List Segment) (s e i : ℕ) → s ≤ i → i ≤ e → i < length l → lead r (getD (markAll r v num l s e) i none) ≡ v
+  mark-in l s e i a b h = ap (lead r) (mark-at l s e i a b h) ∙ marked-lead r v num (getD l i none)
+
+  pub mark-float : (l : List Segment) (s e i : ℕ) → s ≤ i → i ≤ e → i < length l → hasFloat r (getD (markAll r v num l s e) i none) ≡ true
+  mark-float l s e i a b h = ap (hasFloat r) (mark-at l s e i a b h) ∙ marked-float r v num (getD l i none)
+
+  pub mark-after : (l : List Segment) (s e i : ℕ) → e < i → getD (markAll r v num l s e) i none ≡ getD l i none
   unfolding markAll
   mark-after [] s e i h = refl
   mark-after (b ∷ bs) zero zero zero h = absurd (not-suc-le-zero h)
@@ -213,25 +225,41 @@ last-is x (b ∷ []) (suc i) h = absurd (not-suc-le-zero {n = 0} (omega arith))
 last-is x (b ∷ d ∷ bs) zero h = absurd (not-suc-le-zero {n = 0} (omega arith))
 last-is x (b ∷ d ∷ bs) (suc i) h = last-is (b .end) (d ∷ bs) i (omega arith)
 
-module _ (r : FloatDirection) (v : Float) where
-  pub mark-start : (l : List Segment) (s e i : ℕ) → getD (markAll r v l s e) i none .start ≡ getD l i none .start
+module _ (r : FloatDirection) (v : Float) (num : ℕ) where
+  pub mark-start : (l : List Segment) (s e i : ℕ) → getD (markAll r v num l s e) i none .start ≡ getD l i none .start
   unfolding markAll
   mark-start [] s e i = refl
-  mark-start (b ∷ bs) zero zero zero = marked-start r v b
+  mark-start (b ∷ bs) zero zero zero = marked-start r v num b
   mark-start (b ∷ bs) zero zero (suc i) = refl
-  mark-start (b ∷ bs) zero (suc e) zero = marked-start r v b
+  mark-start (b ∷ bs) zero (suc e) zero = marked-start r v num b
   mark-start (b ∷ bs) zero (suc e) (suc i) = mark-start bs zero e i
   mark-start (b ∷ bs) (suc s) zero i = refl
   mark-start (b ∷ bs) (suc s) (suc e) zero = refl
   mark-start (b ∷ bs) (suc s) (suc e) (suc i) = mark-start bs s e i
 
-  pub mark-end : (l : List Segment) (s e i : ℕ) → getD (markAll r v l s e) i none .end ≡ getD l i none .end
+  pub mark-end : (l : List Segment) (s e i : ℕ) → getD (markAll r v num l s e) i none .end ≡ getD l i none .end
   unfolding markAll
   mark-end [] s e i = refl
-  mark-end (b ∷ bs) zero zero zero = marked-end r v b
+  mark-end (b ∷ bs) zero zero zero = marked-end r v num b
   mark-end (b ∷ bs) zero zero (suc i) = refl
-  mark-end (b ∷ bs) zero (suc e) zero = marked-end r v b
+  mark-end (b ∷ bs) zero (suc e) zero = marked-end r v num b
   mark-end (b ∷ bs) zero (suc e) (suc i) = mark-end bs zero e i
   mark-end (b ∷ bs) (suc s) zero i = refl
   mark-end (b ∷ bs) (suc s) (suc e) zero = refl
   mark-end (b ∷ bs) (suc s) (suc e) (suc i) = mark-end bs s e i
+
+-- ---- what holds of each band
+module _ (P : Segment → Type 0) where
+  pub each-split : (y : Float) → ((b : Segment) → P b → P (spanning b (b .start) y) × P (spanning b y (b .end))) → (l : List Segment) (i : ℕ) → Each P l → Each P (splitAt l i y)
+  unfolding splitAt
+  each-split y f [] i h = tt
+  each-split y f (b ∷ bs) zero h = let d = f b (h .0) in (d .0, (d .1, h .1))
+  each-split y f (b ∷ bs) (suc i) h = (h .0, each-split y f bs i (h .1))
+
+  pub each-mark : (r : FloatDirection) (v : Float) (num : ℕ) → ((b : Segment) → P b → P (marked r v num b)) → (l : List Segment) (s e : ℕ) → Each P l → Each P (markAll r v num l s e)
+  unfolding markAll
+  each-mark r v num f [] s e h = tt
+  each-mark r v num f (b ∷ bs) zero zero h = (f b (h .0), h .1)
+  each-mark r v num f (b ∷ bs) zero (suc e) h = (f b (h .0), each-mark r v num f bs zero e (h .1))
+  each-mark r v num f (b ∷ bs) (suc s) zero h = h
+  each-mark r v num f (b ∷ bs) (suc s) (suc e) h = (h .0, each-mark r v num f bs s e (h .1))

@@ -15,6 +15,7 @@ pub mod Steps
 pub mod Added
 pub mod Lists
 pub mod Whole
+pub mod Numbers
 pub mod Reach
 pub mod Structs
 pub mod Adding

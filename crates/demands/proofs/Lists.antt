@@ -1,5 +1,10 @@
--- One more at the end of a list: what holds of each, and of every two.
+-- What holds of each in a list, and of every two: one more at the end, and one by its number.
+use mathlib.Core.Path.{_≡_, refl}
+use Prim.Native.Nat.{ℕ, zero, suc}
+use native.Mathlib.Omega.{arith}
 use mathlib.Core.List.{List, [], _∷_, _++_}
+use mathlib.Core.Option.{some}
+use lib.ListN.{length, getD, getElem?}
 use Rattle.demands.specs.Runs.{Each, Pairs}
 
 module _ {A : Type 0} where
@@ -18,3 +23,22 @@ module _ {A : Type 0} where
   pub each-both : (P Q : A → Type 0) (l : List A) → Each P l → Each Q l → Each (λ x. P x × Q x) l
   each-both P Q [] h g = tt
   each-both P Q (x ∷ l) h g = ((h .0, g .0), each-both P Q l (h .1) (g .1))
+
+  pub each-of : (P : A → Type 0) (l : List A) → ((x : A) → P x) → Each P l
+  each-of P [] f = tt
+  each-of P (x ∷ l) f = (f x, each-of P l f)
+
+  pub each-at : (P : A → Type 0) (l : List A) (i : ℕ) (d : A) → P d → Each P l → P (getD l i d)
+  each-at P [] i d p h = p
+  each-at P (x ∷ l) zero d p h = h .0
+  each-at P (x ∷ l) (suc i) d p h = each-at P l i d p (h .1)
+
+  -- what has a number keeps it, and the new one has the next
+  pub kth-stays : (l m : List A) (k : ℕ) (x : A) → getElem? l k ≡ some x → getElem? (l ++ m) k ≡ some x
+  kth-stays [] m k x e = absurd (let z : _≡_ {A = ℕ} 0 1 = cc in omega arith)
+  kth-stays (a ∷ l) m zero x e = e
+  kth-stays (a ∷ l) m (suc k) x e = kth-stays l m k x e
+
+  pub kth-last : (l : List A) (x : A) → getElem? (l ++ x ∷ []) (length l) ≡ some x
+  kth-last [] x = refl
+  kth-last (a ∷ l) x = kth-last l x

@@ -11,7 +11,6 @@ use lib.Ieee.{Float, inf, binary32, add, lt, le}
 use lib.ListN.{length, getD, length-append, List·getD-append}
 use lib.Seq.{getD-append-seam}
 use Rattle.f32_laws.specs.Numbers.{larger, zero+}
-use Rattle.f32_laws.proofs.Tests.{both}
 use Rattle.f32_laws.proofs.Keys.{lt→key, nlt→key, le→key}
 use Rattle.f32_laws.proofs.Larger.{larger-key}
 use Rattle.float.specs.declared.FloatDirection.{FloatDirection}
@@ -29,30 +28,30 @@ use Rattle.demands.proofs.Splits.{started-ways, make-ways}
 use Rattle.demands.proofs.Seek.{Falls, Asked, Count, Fit, Found}
 
 -- ---- what marking does to the falling sides
-module _ (r : FloatDirection) (v : Float) (l : List Segment) (F s e : ℕ) (f : F ≤ s) where
-  flat : (z : length l ≤ suc e) → Falls r s (markAll r v l s e)
+module _ (r : FloatDirection) (v : Float) (num : ℕ) (l : List Segment) (F s e : ℕ) (f : F ≤ s) where
+  flat : (z : length l ≤ suc e) → Falls r s (markAll r v num l s e)
   flat z i j u w h =
-      let n = length-mark r v l s e in
-      omega (arith, ap k (mark-in r v l s e i u (omega arith) (omega arith)), ap k (mark-in r v l s e j (omega arith) (omega arith) (omega arith)))
+      let n = length-mark r v num l s e in
+      omega (arith, ap k (mark-in r v num l s e i u (omega arith) (omega arith)), ap k (mark-in r v num l s e j (omega arith) (omega arith) (omega arith)))
 
-  others : Falls (other r) F l → Falls (other r) s (markAll r v l s e)
+  others : Falls (other r) F l → Falls (other r) s (markAll r v num l s e)
   others p i j u w h =
-      let n = length-mark r v l s e in
-      omega (arith, ap k (mark-trail r v l s e i), ap k (mark-trail r v l s e j), p i j (omega arith) w (omega arith))
+      let n = length-mark r v num l s e in
+      omega (arith, ap k (mark-trail r v num l s e i), ap k (mark-trail r v num l s e j), p i j (omega arith) w (omega arith))
 
-  same : Falls r F l → s < length l → k (lead r (getD l s none)) ≤ k v → Falls r s (markAll r v l s e)
+  same : Falls r F l → s < length l → k (lead r (getD l s none)) ≤ k v → Falls r s (markAll r v num l s e)
   same p o m i j u w h = go (decLe i e) (decLe j e)
     where
       len : j < length l
-      len = omega (arith, length-mark r v l s e)
+      len = omega (arith, length-mark r v num l s e)
 
-      go : Dec (i ≤ e) → Dec (j ≤ e) → k (lead r (getD (markAll r v l s e) j none)) ≤ k (lead r (getD (markAll r v l s e) i none))
-      go (yes a) (yes b) = omega (arith, len, ap k (mark-in r v l s e i u a (omega (arith, len))), ap k (mark-in r v l s e j (omega arith) b len))
-      go (yes a) (no b) = omega (arith, ap k (mark-in r v l s e i u a (omega (arith, len))), ap (λ (z : Segment). k (lead r z)) (mark-after r v l s e j (omega arith)), p s j f (omega arith) len)
+      go : Dec (i ≤ e) → Dec (j ≤ e) → k (lead r (getD (markAll r v num l s e) j none)) ≤ k (lead r (getD (markAll r v num l s e) i none))
+      go (yes a) (yes b) = omega (arith, len, ap k (mark-in r v num l s e i u a (omega (arith, len))), ap k (mark-in r v num l s e j (omega arith) b len))
+      go (yes a) (no b) = omega (arith, ap k (mark-in r v num l s e i u a (omega (arith, len))), ap (λ (z : Segment). k (lead r z)) (mark-after r v num l s e j (omega arith)), p s j f (omega arith) len)
       go (no a) (yes b) = absurd (a (omega arith))
-      go (no a) (no b) = omega (arith, ap (λ (z : Segment). k (lead r z)) (mark-after r v l s e i (omega arith)), ap (λ (z : Segment). k (lead r z)) (mark-after r v l s e j (omega arith)), p i j (omega arith) w len)
+      go (no a) (no b) = omega (arith, ap (λ (z : Segment). k (lead r z)) (mark-after r v num l s e i (omega arith)), ap (λ (z : Segment). k (lead r z)) (mark-after r v num l s e j (omega arith)), p i j (omega arith) w len)
 
-  falls-mark : Falls r F l ⊎ Falls (other r) F l → s < length l → k (lead r (getD l s none)) ≤ k v → Falls r s (markAll r v l s e) ⊎ Falls (other r) s (markAll r v l s e)
+  falls-mark : Falls r F l ⊎ Falls (other r) F l → s < length l → k (lead r (getD l s none)) ≤ k v → Falls r s (markAll r v num l s e) ⊎ Falls (other r) s (markAll r v num l s e)
   falls-mark (inl p) o m = inl (same p o m)
   falls-mark (inr p) o m = inr (others p)
 
@@ -123,7 +122,7 @@ module _ (l : List Segment) (a : Ask) (F : ℕ) (i : Float) (D : Type 0) where
     pub top : k (getD (m .bands) (m .start) none .start) ≤ k (m .y)
     pub bottom : D → k (add binary32 (m .y) (a .height)) ≤ k (getD (m .bands) (m .end) none .end)
     pub covers : (j : ℕ) → m .start ≤ j → j ≤ m .end → j < length (m .bands) → k (lead (a .side) (getD (m .bands) j none)) ≤ k i
-    pub falls : (v : Float) → k i ≤ k v → Falls (a .side) (m .start) (markAll (a .side) v (m .bands) (m .start) (m .end)) ⊎ Falls (other (a .side)) (m .start) (markAll (a .side) v (m .bands) (m .start) (m .end))
+    pub falls : (v : Float) (num : ℕ) → k i ≤ k v → Falls (a .side) (m .start) (markAll (a .side) v num (m .bands) (m .start) (m .end)) ⊎ Falls (other (a .side)) (m .start) (markAll (a .side) v num (m .bands) (m .start) (m .end))
 
   seed-lead : (r : FloatDirection) (s e x y : Float) → lead r (bare s e (onSide r x y) (onSide r y x)) ≡ x
   seed-lead FloatDirection.Left s e x y = refl
@@ -147,7 +146,7 @@ module _ (l : List Segment) (a : Ask) (F : ℕ) (i : Float) (D : Type 0) where
       top = omega (arith, ap (λ (z : Segment). k (z .start)) (getD-append-seam G (seed a Y E) [] none));
       bottom = λ d. omega (arith, ap (λ (z : Segment). k (z .end)) (getD-append-seam G (seed a Y E) [] none));
       covers = λ j u w x. subst (λ (t : ℕ). k (lead (a .side) (getD (G ++ seed a Y E ∷ []) t none)) ≤ k i) {x = length G} {y = j} (omega arith) (seed-covers G Y E);
-      falls = λ v h. inl (flat (a .side) v (G ++ seed a Y E ∷ []) (length G) (length G) (length G) (omega arith) (omega (arith, len)));
+      falls = λ v num h. inl (flat (a .side) v num (G ++ seed a Y E ∷ []) (length G) (length G) (length G) (omega arith) (omega (arith, len)));
     }
       where
         z : Float
@@ -210,7 +209,7 @@ module _ (l : List Segment) (a : Ask) (F : ℕ) (i : Float) (D : Type 0) where
             top = omega (arith, ap k (split-start l t bt s p));
             bottom = λ d. omega (arith, ap k (split-upper l t bt (omega arith)));
             covers = λ j m n x'. omega (arith, ap k (split-lead (a .side) l t bt j ∙ ap (λ (z : ℕ). lead (a .side) (getD l z none)) (old-le t j n)), w j m (omega arith) (omega arith));
-            falls = λ v m. falls-mark (a .side) v (splitAt l t bt) F s t f (either-split (a .side) F l t bt (omega arith) (omega arith) d) (omega arith)
+            falls = λ v num m. falls-mark (a .side) v num (splitAt l t bt) F s t f (either-split (a .side) F l t bt (omega arith) (omega arith) d) (omega arith)
                 (omega (arith, ap k (split-lead (a .side) l t bt s ∙ ap (λ (z : ℕ). lead (a .side) (getD l z none)) (old-le t s p)), w s (omega arith) (omega arith) (omega arith)));
           }
 
@@ -225,7 +224,7 @@ module _ (l : List Segment) (a : Ask) (F : ℕ) (i : Float) (D : Type 0) where
         top = tp;
         bottom = λ d. reach d wk;
         covers = λ j m n x. w j m (omega arith) x;
-        falls = λ v m. falls-mark (a .side) v l F s t f d h (omega (arith, w s (omega arith) (omega arith) h));
+        falls = λ v num m. falls-mark (a .side) v num l F s t f d h (omega (arith, w s (omega arith) (omega arith) h));
       }
         where
           reach : D → (t ≡ e) ⊎ ((suc t ≤ e) × T (le bt (getD l (suc t) none .start))) → k bt ≤ k (getD l t none .end)
@@ -253,7 +252,7 @@ module _ (l : List Segment) (a : Ask) (F : ℕ) (i : Float) (D : Type 0) where
               top = omega (arith, ap (λ (z : Segment). k (z .start)) (List·getD-append l (seed a z bt ∷ []) none s h));
               bottom = λ d. omega (arith, ap (λ (z : Segment). k (z .end)) (getD-append-seam l (seed a z bt) [] none));
               covers = λ j m n p. upTo j m n (decLe (length l) j);
-              falls = λ v m. inl (flat (a .side) v (l ++ seed a z bt ∷ []) F s (length l) f (omega arith));
+              falls = λ v num m. inl (flat (a .side) v num (l ++ seed a z bt ∷ []) F s (length l) f (omega arith));
             }
           where
             upTo : (j : ℕ) → s ≤ j → j ≤ length l → Dec (length l ≤ j) → k (lead (a .side) (getD (l ++ seed a z bt ∷ []) j none)) ≤ k i
@@ -270,7 +269,7 @@ module _ (l : List Segment) (a : Ask) (F : ℕ) (i : Float) (D : Type 0) where
           top = tp;
           bottom = λ d. omega (arith, nlt→key (zv .num) (bot .num) t, ap k (last-is (inf true) l (length l - 1) (omega arith)));
           covers = λ j m n p. w j m (omega arith) p;
-          falls = λ v m. inl (flat (a .side) v l F s (length l - 1) f (omega arith));
+          falls = λ v num m. inl (flat (a .side) v num l F s (length l - 1) f (omega arith));
         }
 
       started-ok : MadeOk (startedAt a l s e y)

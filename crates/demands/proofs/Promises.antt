@@ -1,18 +1,21 @@
 -- The promises over any sequence of calls from a fresh page, and CSS rules 1, 5 and 7. To read them takes the definitions and no other proof.
 use mathlib.Core.Path.{_≡_, refl, sym, subst}
 use Prim.Native.Nat.{ℕ, _+_, _≤_, _<_}
-use mathlib.Core.Bool.{true, not}
+use mathlib.Core.Bool.{true, false, not}
 use mathlib.Core.List.{List, map}
 use lib.Dec.{T}
 use lib.Ieee.{Float, inf, binary32, add, sub, lt, le, eq}
 use lib.ListN.{length, getD}
 use Rattle.f32_laws.specs.Numbers.{zero+}
+use Rattle.float.specs.declared.BandNumber.{BandNumber}
+use Rattle.float.specs.declared.BoxNumber.{BoxNumber}
 use Rattle.float.specs.declared.ContentAnswer.{ContentAnswer}
 use Rattle.float.specs.declared.ContentSlot.{ContentSlot}
 use Rattle.float.specs.declared.Done.{Done}
 use Rattle.float.specs.declared.FloatContext.{FloatContext}
 use Rattle.float.specs.declared.FloatDirection.{FloatDirection}
 use Rattle.float.specs.declared.FloatIntrinsicWidthCalculator.{FloatIntrinsicWidthCalculator}
+use Rattle.float.specs.declared.Innermost.{Innermost}
 use Rattle.float.specs.declared.PlaceAnswer.{PlaceAnswer}
 use Rattle.float.specs.declared.Refusal.{Refusal}
 use Rattle.float.specs.declared.Segment.{Segment}
@@ -20,27 +23,29 @@ use Rattle.float.specs.declared.fit.Ask.{Ask}
 use Rattle.float.specs.declared.refuse.Check.{Check}
 use Rattle.float.specs.Numbers.{plusZero, inReach}
 use Rattle.float.specs.Refuse.{sideOf}
-use Rattle.float.specs.Bands.{sameSide, other, lead, none}
+use Rattle.float.specs.Bands.{sameSide, other, lead, hasFloat, boxOn, none}
 use Rattle.float.specs.Page.{Page, pageOf, stored}
 use Rattle.float.specs.Calculator.{addOf}
 use Rattle.float.specs.Fit.{fits}
 use Rattle.float.specs.Place.{Call, cleaned, numbers, inputCheck, askOf, spotOf, place, placedPage, placeOf, withWidth, widthOf, ifDone}
-use Rattle.float.specs.Slot.{content}
-use Rattle.demands.specs.Runs.{Each, Pairs, Act, box, boxIn, next, run, after, pageIn, bandsIn, Stays, handed, Handed, F32, Whole64, insetAt, NoSmaller, EdgeToEdge, StartSplit, EndSplit, sideIn, containingLead, containingTrail, xFrom, bottom, rightEdge, farInset, LowEnough, ExactSum, contentAt, Between, sized, shareHeight, overlap, fitsExactly, Joins, Page64}
+use Rattle.float.specs.Slot.{innermost, content}
+use Rattle.demands.specs.Runs.{Each, Pairs, Act, box, boxIn, next, run, after, pageIn, bandsIn, Stays, handed, Handed, F32, Whole64, insetAt, NoSmaller, EdgeToEdge, StartSplit, EndSplit, sideIn, containingLead, containingTrail, xFrom, bottom, rightEdge, farInset, LowEnough, present, Names, Holds, StandsAt, ExactSum, contentAt, Between, sized, shareHeight, overlap, fitsExactly, Joins, Page64}
 use Rattle.demands.proofs.Steps.{StepsTo, place-few}
 use Rattle.demands.proofs.Added.{place-more}
 use Rattle.demands.proofs.Splits.{start-split, end-split}
 use Rattle.demands.proofs.Input.{cleaned-fits}
+use Rattle.demands.proofs.Lists.{each-map}
 use Rattle.demands.proofs.Whole.{Lies, spot-in, place-ok}
+use Rattle.demands.proofs.Numbers.{Numbered}
 use Rattle.demands.proofs.Reach.{inset-in-reach, flat-not-6}
 use Rattle.demands.proofs.Structs.{page-placed}
 use Rattle.demands.proofs.Exact.{fits-idle}
 use Rattle.demands.proofs.Adding.{LeftAs, add-left}
 use Rattle.demands.proofs.Whole64.{known64, ask64}
 use Rattle.demands.proofs.Content.{Answers, content-told}
-use Rattle.demands.proofs.Reached.{reached, grown, reached64}
+use Rattle.demands.proofs.Reached.{named, reached, grown, reached64}
 use Rattle.demands.proofs.Edges.{exact-edges, seven, apart}
-use Rattle.demands.proofs.Said.{edges, held-inset, no-smaller, passed, page64, joins-ins, joins64, each-boxed, clear-pairs}
+use Rattle.demands.proofs.Said.{edges, held-inset, no-smaller, told-names, told-unmarked, passed, page64, joins-ins, joins64, taken-in, taken-marked, each-boxed, each-standing, clear-pairs}
 
 -- ---- any numbers: `os` is what was called so far
 
@@ -126,6 +131,22 @@ flat-never-far os c f g = flat-not-6 (pageIn (after os)) (after os .accepted) c 
 pub content-insets : (os : List Act) → Handed F32 os → (h : Float) → F32 h → (s : ContentSlot) → content (pageIn (after os)) (contentAt h) ≡ ContentAnswer.Slot s → Between (pageIn (after os)) (plusZero h) s
 content-insets os f h g s e = subst (Answers (pageIn (after os)) (plusZero h)) e (content-told (pageIn (after os)) h (reached os f .chain) g)
 
+-- the box that a band names (1/14): on either side a number is present exactly where the mark is set
+pub number-with-mark : (os : List Act) → Each (λ b. (s : FloatDirection) → present (boxOn s b) ≡ hasFloat s b) (bandsIn (after os))
+number-with-mark os = each-map (Numbered (after os .accepted)) _ (bandsIn (after os)) (λ b n. n .shown) (named os .bands)
+
+-- it names the box of that number: of that side, and its inset plus width, rounded, is the band's inset
+pub number-names : (os : List Act) → Each (λ b. (s : FloatDirection) (k : ℕ) → boxOn s b ≡ BoxNumber.At k → Names (after os .accepted) s b k) (bandsIn (after os))
+number-names os = each-map (Numbered (after os .accepted)) _ (bandsIn (after os)) (λ b n. n .names) (named os .bands)
+
+-- and `innermost` answers it
+pub innermost-told : (os : List Act) (i s k : ℕ) → innermost (pageIn (after os)) (BandNumber.At i) s ≡ Innermost.Answer (BoxNumber.At k) → Names (after os .accepted) (sideOf s) (getD (bandsIn (after os)) i none) k
+innermost-told os = told-names (pageIn (after os)) (after os .accepted) (named os)
+
+-- or none, where the mark is not set or there is no such band
+pub innermost-none : (os : List Act) (i s : ℕ) → innermost (pageIn (after os)) (BandNumber.At i) s ≡ Innermost.Answer BoxNumber.None → hasFloat (sideOf s) (getD (bandsIn (after os)) i none) ≡ false
+innermost-none os = told-unmarked (pageIn (after os)) (after os .accepted) (named os)
+
 -- ---- if every number handed in was whole 64ths
 
 -- all numbers that the page then holds are whole 64ths
@@ -156,3 +177,13 @@ rule-7 os f s = clear-pairs os f s seven
 -- no two accepted boxes of positive size overlap
 pub no-overlap : (os : List Act) → Handed F32 os → Handed Whole64 os → Pairs (λ a b. T (sized a) → T (sized b) → T (not (overlap a b))) (after os .accepted)
 no-overlap os f s = clear-pairs os f s apart
+
+-- no accepted box that shares a height with a band reaches in further than the band's inset of its side
+pub none-further-in : (os : List Act) → Handed F32 os → Handed Whole64 os → (i : ℕ) → i < length (bandsIn (after os)) → (h : Float) → F32 h → Holds (getD (bandsIn (after os)) i none) h
+    → Each (λ a. StandsAt a h → T (le (farInset a) (lead (sideIn a) (getD (bandsIn (after os)) i none)))) (after os .accepted)
+none-further-in os f s i o h g w = each-standing os f s (taken-in (bandsIn (after os)) (reached64 os f s .inv .chain) i o h g w)
+
+-- and where a side is not marked, no accepted box of that side shares a height with the band
+pub unmarked-free : (os : List Act) → Handed F32 os → Handed Whole64 os → (i : ℕ) → i < length (bandsIn (after os)) → (s : FloatDirection) → hasFloat s (getD (bandsIn (after os)) i none) ≡ false → (h : Float) → F32 h → Holds (getD (bandsIn (after os)) i none) h
+    → Each (λ a. sideIn a ≡ s → StandsAt a h → ⊥) (after os .accepted)
+unmarked-free os f s i o r e h g w = each-standing os f s (taken-marked (bandsIn (after os)) (reached64 os f s .inv .chain) i o h g w r e)

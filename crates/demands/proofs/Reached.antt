@@ -6,8 +6,9 @@ use Rattle.float.specs.Page.{Page, fresh}
 use Rattle.float.specs.Place.{Call, cleaned, place, placeOf, setWidth}
 use Rattle.demands.specs.Runs.{Each, Act, newPage, width, box, Accepted, Run, noted, started, next, run, pageIn, bandsIn, Stays, handed, Handed, F32, Whole64}
 use Rattle.demands.proofs.Heights.{Grows, grows-refl, grows-trans}
-use Rattle.demands.proofs.Lists.{each-both}
+use Rattle.demands.proofs.Lists.{each-both, each-of}
 use Rattle.demands.proofs.Whole.{Inv, fresh-inv, place-ok, wide-ok}
+use Rattle.demands.proofs.Numbers.{Named, fresh-named, place-named, wide-named}
 use Rattle.demands.proofs.Structs.{page-fresh, page-placed, page-widened}
 use Rattle.demands.proofs.Apart.{Inv64}
 use Rattle.demands.proofs.Whole64.{place64, wide64, fresh64}
@@ -32,6 +33,15 @@ module _ (P : Page → List Accepted → Type 0) where
 
   in-widened : (r : Run) (w : Float) → P (setWidth (pageIn r) w) (r .accepted) → In (next r (width w))
   in-widened r w h = subst (λ (q : Page). P q (r .accepted)) (sym (page-widened (r .struct) w)) h
+
+-- ---- any numbers
+next-named : (r : Run) (o : Act) → In Named r → Unit {0} → In Named (next r o)
+next-named r newPage v u = in-started Named fresh-named
+next-named r (width w) v u = in-widened Named r w (wide-named (pageIn r) (r .accepted) w v)
+next-named r (box c) v u = in-placed Named r c (place-named (pageIn r) (r .accepted) c v)
+
+pub named : (os : List Act) → In Named (run started os)
+named os = run-keeps (In Named) (λ o. Unit {0}) next-named started os (in-started Named fresh-named) (each-of (λ o. Unit {0}) os (λ o. tt))
 
 -- ---- any f32
 next-inv : (r : Run) (o : Act) → In Inv r → Each F32 (handed o) → In Inv (next r o)

@@ -1,36 +1,41 @@
 -- From the invariants to the words of the promises.
-use mathlib.Core.Path.{_≡_, refl, sym, subst}
+use mathlib.Core.Path.{_≡_, refl, sym, ap, _∙_, subst}
 use Prim.Native.Nat.{ℕ, _<_}
 use native.Mathlib.Omega.{arith}
 use mathlib.Core.Bool.{Bool, true, false, _&&_, cond}
 use mathlib.Core.List.{List, [], _∷_, map}
 use lib.Dec.{T, ltb}
-use lib.Ieee.{Float, nan, inf, fin, binary32, lt, le}
+use lib.Ieee.{Float, nan, inf, fin, binary32, lt, le, eq}
 use lib.ListN.{length, getD}
 use Rattle.f32_laws.specs.Numbers.{zero+, is64}
 use Rattle.f32_laws.specs.Key.{Num}
 use Rattle.f32_laws.proofs.Keys.{le→key, key→le, lt→key}
 use Rattle.f32_laws.proofs.Is64.{at64-is64}
+use Rattle.float.specs.declared.BandNumber.{BandNumber}
 use Rattle.float.specs.declared.Bottom.{Bottom}
+use Rattle.float.specs.declared.BoxNumber.{BoxNumber}
 use Rattle.float.specs.declared.FloatDirection.{FloatDirection}
+use Rattle.float.specs.declared.Innermost.{Innermost}
 use Rattle.float.specs.declared.PlacedFloatedBox.{PlacedFloatedBox}
 use Rattle.float.specs.declared.Refusal.{Refusal}
 use Rattle.float.specs.declared.Segment.{Segment}
 use Rattle.float.specs.declared.refuse.Check.{Check}
 use Rattle.float.specs.Numbers.{Given, allFinite, allAllowed}
-use Rattle.float.specs.Refuse.{checkOf}
-use Rattle.float.specs.Bands.{lead, none}
+use Rattle.float.specs.Refuse.{sideOf, checkOf}
+use Rattle.float.specs.Bands.{lead, hasFloat, boxOn, none}
 use Rattle.float.specs.Page.{Page}
 use Rattle.float.specs.Place.{Call, cleaned, numbers, inputCheck}
-use Rattle.demands.specs.Runs.{Each, Pairs, Act, box, handed, Handed, F32, Whole64, after, pageIn, Accepted, boxIn, xFrom, insetAt, NoSmaller, EdgeToEdge, Joins, unjoined, joins, joinsTwo, Bottom64, Page64}
-use Rattle.demands.proofs.Laws.{Ins, ins-zero, larger-ins}
+use Rattle.float.specs.Slot.{recordedOn, innermost}
+use Rattle.demands.specs.Runs.{Each, Pairs, Act, box, handed, Handed, F32, Whole64, after, pageIn, Accepted, boxIn, sideIn, xFrom, farInset, insetAt, NoSmaller, EdgeToEdge, present, Names, Holds, StandsAt, Joins, unjoined, joins, joinsTwo, Bottom64, Page64}
+use Rattle.demands.proofs.Laws.{k, Ins, ins-zero, ins-val, larger-ins, sum-num}
 use Rattle.demands.proofs.Chain.{Chain, chain-at}
-use Rattle.demands.proofs.Heights.{Grows, at-ins, at-is}
+use Rattle.demands.proofs.Heights.{Grows, bandAt, at-lead, at-ins, band-is}
 use Rattle.demands.proofs.Input.{Known, known, cleaned-fits, BottomIs}
-use Rattle.demands.proofs.Lists.{each-map, each-both}
+use Rattle.demands.proofs.Lists.{each-map, each-both, each-at}
+use Rattle.demands.proofs.Numbers.{Numbered, Named, unnamed, bare-numbered}
 use Rattle.demands.proofs.Exact.{two, Q, q-zero, q-larger}
 use Rattle.demands.proofs.Bands64.{Band64, band-at}
-use Rattle.demands.proofs.Apart.{Beside, Box64, Inv64}
+use Rattle.demands.proofs.Apart.{Takes, Stands, Beside, Box64, Inv64}
 use Rattle.demands.proofs.Reached.{reached64}
 use Rattle.demands.proofs.Edges.{Boxed}
 
@@ -45,23 +50,62 @@ unfolding insetAt lt
 at-nan r [] = refl
 at-nan r (b ∷ bs) = at-nan r bs
 
+no-lower : (l m : List Segment) → Chain (inf true) l → Chain (inf true) m → Grows l m → (r : FloatDirection) (h : Float) → Num binary32 h → T (le (insetAt r h l) (insetAt r h m))
+no-lower l m c d g r h n = key→le (at-ins (inf true) l r h c .num) (at-ins (inf true) m r h d .num) (omega (arith, g h n .inset r, ap k (at-lead r h l), ap k (at-lead r h m)))
+
 pub no-smaller : (l m : List Segment) → Chain (inf true) l → Chain (inf true) m → Grows l m → NoSmaller l m
 no-smaller l m c d h r nan f = subst (λ (z : Float). T (le z (insetAt r nan m))) (sym (at-nan r l)) (subst (λ (z : Float). T (le zero+ z)) (sym (at-nan r m)) (key→le (ins-zero .num) (ins-zero .num) (omega arith)))
-no-smaller l m c d h r (inf s) f = key→le (at-ins (inf true) l r (inf s) c .num) (at-ins (inf true) m r (inf s) d .num) (h r (inf s) (record { is = tt }))
-no-smaller l m c d h r (fin s n e) f = key→le (at-ins (inf true) l r (fin s n e) c .num) (at-ins (inf true) m r (fin s n e) d .num) (h r (fin s n e) (record { is = f }))
+no-smaller l m c d h r (inf s) f = no-lower l m c d h r (inf s) (record { is = tt })
+no-smaller l m c d h r (fin s n e) f = no-lower l m c d h r (fin s n e) (record { is = f })
 
--- a height above a number is no NaN
-num-below : (h z : Float) → F32 h → T (lt h z) → Num binary32 h
-unfolding lt
-num-below nan z f w = absurd w
-num-below (inf s) z f w = record { is = tt }
-num-below (fin s m e) z f w = record { is = f }
+-- a height at or below a number is no NaN
+num-from : (h z : Float) → F32 h → T (le z h) → Num binary32 h
+unfolding le lt eq
+num-from nan nan f w = absurd w
+num-from nan (inf s) f w = absurd w
+num-from nan (fin s m e) f w = absurd w
+num-from (inf s) z f w = record { is = tt }
+num-from (fin s m e) z f w = record { is = f }
+
+held-band : (l : List Segment) → Chain (inf true) l → (h : Float) (i : ℕ) → F32 h → i < length l → Holds (getD l i none) h → bandAt h l ≡ getD l i none
+held-band l c h i f o w =
+    let b = chain-at (inf true) l i c o in
+    let n = num-from h (getD l i none .start) f (w .0) in
+    band-is (inf true) l h i c n o (le→key (b .start .num) n (w .0)) (lt→key n (b .end .num) (w .1))
 
 pub held-inset : (l : List Segment) → Chain (inf true) l → (s : FloatDirection) (h : Float) (i : ℕ) → F32 h → i < length l → T (le (getD l i none .start) h) → T (lt h (getD l i none .end)) → insetAt s h l ≡ lead s (getD l i none)
-held-inset l c s h i f o u w =
-    let b = chain-at (inf true) l i c o in
-    let n = num-below h (getD l i none .end) f w in
-    at-is (inf true) l h i s c n o (le→key (b .start .num) n u) (lt→key n (b .end .num) w)
+held-inset l c s h i f o u w = at-lead s h l ∙ ap (lead s) (held-band l c h i f o (u, w))
+
+-- ---- the box that a band names
+told : (p : Page) (i s : ℕ) (n : BoxNumber) → innermost p (BandNumber.At i) s ≡ Innermost.Answer n → recordedOn (sideOf s) (getD (p .bands) i none) ≡ n
+unfolding innermost
+told p i s n e = go (checkOf (ltb s 2) []) e
+  where
+    go : (c : Check) → (elim c [ Check.Passed ↦ Innermost.Answer (recordedOn (sideOf s) (getD (p .bands) i none)) | Check.Refused m ↦ Innermost.Refused m ]) ≡ Innermost.Answer n → recordedOn (sideOf s) (getD (p .bands) i none) ≡ n
+    go Check.Passed e = cc
+    go (Check.Refused m) e = absurd (let z : _≡_ {A = ℕ} 0 1 = cc in omega arith)
+
+-- a read past the last band is of one with no float
+module _ (p : Page) (g : List Accepted) (v : Named p g) (i s : ℕ) where
+  abbrev band : Segment
+  band = getD (p .bands) i none
+
+  band-numbered : Numbered g band
+  band-numbered = each-at (Numbered g) (p .bands) i none (bare-numbered g nan nan nan nan) (v .bands)
+
+  pub told-names : (n : ℕ) → innermost p (BandNumber.At i) s ≡ Innermost.Answer (BoxNumber.At n) → Names g (sideOf s) band n
+  told-names n e = band-numbered .names (sideOf s) n (go (hasFloat (sideOf s) band) (told p i s (BoxNumber.At n) e))
+    where
+      go : (t : Bool) → cond t (boxOn (sideOf s) band) BoxNumber.None ≡ BoxNumber.At n → boxOn (sideOf s) band ≡ BoxNumber.At n
+      go true e = e
+      go false e = absurd (unnamed n e)
+
+  pub told-unmarked : innermost p (BandNumber.At i) s ≡ Innermost.Answer BoxNumber.None → hasFloat (sideOf s) band ≡ false
+  told-unmarked e = go (hasFloat (sideOf s) band) (boxOn (sideOf s) band) (band-numbered .shown (sideOf s)) (told p i s BoxNumber.None e)
+    where
+      go : (t : Bool) (n : BoxNumber) → present n ≡ t → cond t n BoxNumber.None ≡ BoxNumber.None → t ≡ false
+      go true n u e = sym u ∙ ap present e
+      go false n u e = refl
 
 -- ---- a check that passed
 check-passed : (b : Bool) (gs : List Given) → checkOf b gs ≡ Check.Passed → T (allFinite gs) × T (allAllowed gs)
@@ -109,6 +153,19 @@ joins64 {r} {l} d unjoined = q-zero
 joins64 {r} {l} d (joins i h) = band-at l i d h .inset r
 joins64 {r} {l} d (joinsTwo p q) = q-larger (joins64 d p) (joins64 d q)
 
+-- a box that has a height of a band is taken into it
+module _ (l : List Segment) (c : Chain (inf true) l) (i : ℕ) (o : i < length l) (h : Float) (f : F32 h) (w : Holds (getD l i none) h) where
+  taken : (a : Accepted) → Box64 a × Stands l a → StandsAt a h → Takes (getD l i none) a
+  taken a (b, s) t =
+      let n = num-from h (getD l i none .start) f (w .0) in
+      subst (λ (d : Segment). Takes d a) (held-band l c h i f o w) (s h n (le→key (b .y' .num) n (t .0), lt→key n (sum-num (b .y') (b .height')) (t .1)))
+
+  pub taken-in : (a : Accepted) → Box64 a × Stands l a → StandsAt a h → T (le (farInset a) (lead (sideIn a) (getD l i none)))
+  taken-in a p t = key→le (sum-num (ins-val (p .0 .inset')) (p .0 .width')) (chain-at (inf true) l i c o .inset (sideIn a) .num) (taken a p t .0)
+
+  pub taken-marked : (s : FloatDirection) → hasFloat s (getD l i none) ≡ false → (a : Accepted) → Box64 a × Stands l a → sideIn a ≡ s → StandsAt a h → ⊥
+  taken-marked s e a p u t = subst T (ap (λ (r : FloatDirection). hasFloat r (getD l i none)) u ∙ e) (taken a p t .1)
+
 -- of every two, by what is known of each
 pairs-map : {A : Type 0} (P : A → Type 0) (R S : A → A → Type 0) (l : List A) → ((x y : A) → P x → P y → R x y → S x y) → Each P l → Pairs R l → Pairs S l
 pairs-map P R S [] f h g = tt
@@ -124,6 +181,9 @@ module _ (os : List Act) (f : Handed F32 os) (s : Handed Whole64 os) where
 
   pub each-boxed : {S : Float → Accepted → Type 0} → ((w : Float) → Q w → Ins w → (a : Accepted) → Boxed w a → S w a) → Each (S (page .width)) (after os .accepted)
   each-boxed {S} h = let v = reached64 os f s in each-map (Boxed (page .width)) (S (page .width)) (after os .accepted) (h (page .width) (v .width) (v .inv .width)) boxed
+
+  pub each-standing : {S : Accepted → Type 0} → ((a : Accepted) → Box64 a × Stands (page .bands) a → S a) → Each S (after os .accepted)
+  each-standing {S} h = let v = reached64 os f s in each-map (λ a. Box64 a × Stands (page .bands) a) S (after os .accepted) h (each-both Box64 (Stands (page .bands)) (after os .accepted) (v .boxes) (v .stands))
 
   pub clear-pairs : {S : Float → Accepted → Accepted → Type 0} → ((w : Float) → Q w → Ins w → (a b : Accepted) → Boxed w a → Boxed w b → Beside w a b → S w a b) → Pairs (S (page .width)) (after os .accepted)
   clear-pairs {S} h = let v = reached64 os f s in pairs-map (Boxed (page .width)) (Beside (page .width)) (S (page .width)) (after os .accepted) (h (page .width) (v .width) (v .inv .width)) boxed (v .beside)

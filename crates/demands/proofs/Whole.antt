@@ -178,10 +178,10 @@ module _ (p : Page) (g : List Accepted) (a : Ask) (i : Float) (m : Made) (v : In
   wider = sum-grows (ins-val w) (q .width)
 
   same-length : length (recorded p a i m .bands) ≡ length (m .bands)
-  same-length = length-mark _ _ (m .bands) _ _
+  same-length = length-mark _ _ _ (m .bands) _ _
 
   recorded-grows : Grows (p .bands) (recorded p a i m .bands)
-  recorded-grows = grows-trans (p .bands) (m .bands) _ (o .grows) (grows-mark _ _ (m .bands) _ _ (λ j u x y. omega (arith, wider, o .covers j u (omega (arith, o .order)) y)))
+  recorded-grows = grows-trans (p .bands) (m .bands) _ (o .grows) (grows-mark _ _ _ (m .bands) _ _ (λ j u x y. omega (arith, wider, o .covers j u (omega (arith, o .order)) y)))
 
   kept-ok : (x : Kept) → x .first ≤ x .past → keep x (m .start) (m .end) .first ≤ keep x (m .start) (m .end) .past
   kept-ok x h = omega (arith, o .order)
@@ -189,13 +189,13 @@ module _ (p : Page) (g : List Accepted) (a : Ask) (i : Float) (m : Made) (v : In
   recorded-ok : Inv (recorded p a i m) g
   recorded-ok = let f = firsts (a .side) (p .left) (p .right) (m .start) (m .end) (o .first) in record {
     width = v .width;
-    chain = chain-mark _ _ (inf true) (m .bands) _ _ edge (o .chain);
+    chain = chain-mark _ _ _ (inf true) (m .bands) _ _ edge (o .chain);
     count = omega (arith, same-length);
     full = v .full;
     boxes = v .boxes;
     kept = λ r. on-either K r (on-either K (a .side) (kept-ok (p .left) (v .kept FloatDirection.Left)) (v .kept FloatDirection.Left)) (on-either K (a .side) (v .kept FloatDirection.Right) (kept-ok (p .right) (v .kept FloatDirection.Right)));
     first = omega (arith, same-length, o .order, o .last);
-    falls = subst (λ (s : ℕ). OneFalls s l) (sym f) (λ r. sides (a .side) r (m .start) l (o .falls (add binary32 i (a .width)) wider));
+    falls = subst (λ (s : ℕ). OneFalls s l) (sym f) (λ r. sides (a .side) r (m .start) l (o .falls (add binary32 i (a .width)) (length (p .boxes)) wider));
     bottom = v .bottom;
     ceiling = v .ceiling;
     tops = v .tops;

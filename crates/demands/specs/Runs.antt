@@ -4,14 +4,16 @@ use Prim.Native.Nat.{ℕ, suc, _-_, _^_, _≤_, _<_}
 use mathlib.Core.Path.{_≡_}
 use mathlib.Core.Bool.{Bool, true, false, _&&_, _||_}
 use mathlib.Core.List.{List, [], _∷_, _++_}
+use mathlib.Core.Option.{some}
 use lib.Dec.{T}
 use lib.IntN.{ℤ, natAbs, _+ℤ_}
 use lib.Ieee.{Float, binary32, fits as fits-in, add, sub, lt, le, eq}
-use lib.ListN.{length, getD}
+use lib.ListN.{length, getD, getElem?}
 use Rattle.f32_laws.specs.Numbers.{larger, zero+, is64}
 use Rattle.f32_laws.specs.Sixty.{in64}
 use Rattle.float.specs.declared.BandNumber.{BandNumber}
 use Rattle.float.specs.declared.Bottom.{Bottom}
+use Rattle.float.specs.declared.BoxNumber.{BoxNumber}
 use Rattle.float.specs.declared.ContentSlot.{ContentSlot}
 use Rattle.float.specs.declared.FloatContext.{FloatContext}
 use Rattle.float.specs.declared.FloatDirection.{FloatDirection}
@@ -210,6 +212,26 @@ shareHeight a b = lt (a .y) (bottom b) && lt (b .y) (bottom a)
 -- the rectangles that the answers give have a point inside in common
 abbrev pub overlap : Accepted → Accepted → Bool
 overlap a b = shareHeight a b && lt (a .x) (rightEdge b) && lt (b .x) (rightEdge a)
+
+-- ---- the box that a band names (1/14)
+
+abbrev pub present : BoxNumber → Bool
+present BoxNumber.None = false
+present (BoxNumber.At k) = true
+
+-- on the side s the band b names the box k of those accepted, counted from 0: it is of that side, and the band's inset is its inset plus width, rounded
+pub record Names (g : List Accepted) (s : FloatDirection) (b : Segment) (k : ℕ) : Type 0 where
+  pub named : Accepted
+  pub kth : getElem? g k ≡ some named
+  pub side : sideIn named ≡ s
+  pub inset : lead s b ≡ farInset named
+
+-- the height h is in the band, and in the box
+abbrev pub Holds : Segment → Float → Type 0
+Holds b h = T (le (b .start) h) × T (lt h (b .end))
+
+abbrev pub StandsAt : Accepted → Float → Type 0
+StandsAt a h = T (le (a .y) h) × T (lt h (bottom a))
 
 -- ---- a content question
 

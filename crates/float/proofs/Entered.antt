@@ -105,7 +105,7 @@ module _ (h : Head) (adm : Admission) (s : Spot) (n : ℕ) (en : n ≡ min (adm 
 
   -- with a height: last, first and end are the bands that were read, i the end walked back
   module _ (o : eq (adm .ask .height) (ofBits binary32 0) ≡ false) (last first end : Segment) (z : Float) (ez : (l : List Segment) → n ≤ length l → last ≡ getD l (n - 1) none → z ≡ lastEnd (inf true) (take n l)) (e i : ℕ) (ei : i ≡ min e 95)
-      (back : WalkedBack (take (adm .n) bs) (adm .ask) s e) (el : last ≡ getD bs (adm .n - min (adm .n) 1) none) (ef : first ≡ getD bs (min (s .start) 95) none) (ee : end ≡ getD bs (min e 95) none) (p : Plan) (ep : p ≡ planFrom n z (adm .ask) s i first end) where
+      (back : WalkedBack (take (adm .n) bs) (adm .ask) s e) (el : last ≡ getD bs (adm .n - min (adm .n) 1) none) (ef : first ≡ getD bs (min (s .start) 95) none) (ee : end ≡ getD bs (min e 95) none) (num : ℕ) (en' : num ≡ min (h .«box_count») 63) (p : Plan) (ep : p ≡ planFrom n z (adm .ask) s num i first end) where
     most : n ≤ 96
     most = omega arith
 
@@ -143,8 +143,12 @@ module _ (h : Head) (adm : Admission) (s : Spot) (n : ℕ) (en : n ≡ min (adm 
         let l = live-bands h bs xs bands boxes n live few (adm .ask) s in
         simp (put, t, l)
 
-    made : Recorded (adm .ask) bs n s p
-    made = code-recorded (adm .ask) bs n s bands most (order .0) (order .1) z last-is i end-is first end start-at end-at p ep
+    -- a page that takes a box has a place for it
+    number-is : num ≡ h .«box_count»
+    number-is = omega (arith, few)
+
+    made : Recorded (adm .ask) bs n s (h .«box_count») p
+    made = code-recorded (adm .ask) bs n s (h .«box_count») bands most (order .0) (order .1) z last-is i end-is first end start-at end-at p (ep ∙ ap (λ (k : ℕ). planFrom n z (adm .ask) s k i first end) number-is)
 
     near-is : (t : Bool) → near (adm .ask) (s .inset) (p .y) ≡ t → near (adm .ask) (s .inset) (M .y) ≡ t
     near-is t u = ap (near (adm .ask) (s .inset)) (made .y) ∙ u

@@ -6,15 +6,17 @@ use lib.Ieee.{Float}
 use Rattle.float.specs.declared.BandNumber.{BandNumber}
 use Rattle.float.specs.declared.BfcAnswer.{BfcAnswer}
 use Rattle.float.specs.declared.Bottom.{Bottom}
+use Rattle.float.specs.declared.BoxNumber.{BoxNumber}
 use Rattle.float.specs.declared.CalculatorAnswer.{CalculatorAnswer}
 use Rattle.float.specs.declared.ContentAnswer.{ContentAnswer}
 use Rattle.float.specs.declared.Done.{Done}
+use Rattle.float.specs.declared.Innermost.{Innermost}
 use Rattle.float.specs.declared.PlaceAnswer.{PlaceAnswer}
 use Rattle.float.specs.declared.Threshold.{Threshold}
 use Rattle.float.specs.declared.YesNo.{YesNo}
 use Rattle.float.specs.Refuse.{numberOf}
 
--- a value: an f32, a count or a band's number, yes or no, or - where there is none
+-- a value: an f32, a count or the number of a band or a box, yes or no, or - where there is none
 pub data Value : Type 0 where
   float : Float → Value
   count : ℕ → Value
@@ -26,10 +28,14 @@ pub data Said : Type 0 where
   refused : ℕ → Said
   values : List Value → Said
 
--- a band's number or a bottom, if there is one
+-- a band's number, a box's or a bottom, if there is one
 abbrev pub band : BandNumber → Value
 band BandNumber.None = missing
 band (BandNumber.At i) = count i
+
+abbrev pub box : BoxNumber → Value
+box BoxNumber.None = missing
+box (BoxNumber.At k) = count k
 
 abbrev pub bottom : Bottom → Value
 bottom Bottom.None = missing
@@ -69,3 +75,8 @@ saidYesNo (YesNo.Refused n) = refused (numberOf n)
 abbrev pub saidThreshold : Threshold → Said
 saidThreshold (Threshold.Answer b) = values (bottom b ∷ [])
 saidThreshold (Threshold.Refused n) = refused (numberOf n)
+
+-- the box's number, if any
+abbrev pub saidInnermost : Innermost → Said
+saidInnermost (Innermost.Answer k) = values (box k ∷ [])
+saidInnermost (Innermost.Refused n) = refused (numberOf n)

@@ -3,6 +3,7 @@ use Prim.Native.Nat.{ℕ, zero, suc}
 use mathlib.Core.Bool.{Bool, true, false}
 use mathlib.Core.List.{List, [], _∷_}
 use lib.Ieee.{Float, nan, lt}
+use Rattle.float.specs.declared.BoxNumber.{BoxNumber}
 use Rattle.float.specs.declared.FloatDirection.{FloatDirection}
 use Rattle.float.specs.declared.Segment.{Segment}
 
@@ -27,22 +28,26 @@ trail s b = lead (other s) b
 abbrev pub hasFloat : FloatDirection → Segment → Bool
 hasFloat s b = onSide s (b .«left_float») (b .«right_float»)
 
--- what a read past the last band gives
-abbrev pub none : Segment
-none = record { start = nan; end = nan; left = nan; right = nan; «left_float» = false; «right_float» = false }
+-- the number of the box last recorded on a side (1/14)
+abbrev pub boxOn : FloatDirection → Segment → BoxNumber
+boxOn s b = onSide s (b .«left_box») (b .«right_box»)
 
 -- a band with no float
 abbrev pub bare : (start end left right : Float) → Segment
-bare s e l r = record { start = s; end = e; left = l; right = r; «left_float» = false; «right_float» = false }
+bare s e l r = record { start = s; end = e; left = l; right = r; «left_float» = false; «right_float» = false; «left_box» = BoxNumber.None; «right_box» = BoxNumber.None }
+
+-- what a read past the last band gives
+abbrev pub none : Segment
+none = bare nan nan nan nan
 
 -- the same band from s to e
 abbrev pub spanning : Segment → (start end : Float) → Segment
-spanning b s e = record { start = s; end = e; left = b .left; right = b .right; «left_float» = b .«left_float»; «right_float» = b .«right_float» }
+spanning b s e = record { start = s; end = e; left = b .left; right = b .right; «left_float» = b .«left_float»; «right_float» = b .«right_float»; «left_box» = b .«left_box»; «right_box» = b .«right_box» }
 
--- a band with the inset v and a float on one side
-abbrev pub marked : FloatDirection → Float → Segment → Segment
-marked FloatDirection.Left v b = record { start = b .start; end = b .end; left = v; right = b .right; «left_float» = true; «right_float» = b .«right_float» }
-marked FloatDirection.Right v b = record { start = b .start; end = b .end; left = b .left; right = v; «left_float» = b .«left_float»; «right_float» = true }
+-- a band with the inset v, a float and the box k on one side
+abbrev pub marked : FloatDirection → (inset : Float) (number : ℕ) → Segment → Segment
+marked FloatDirection.Left v k b = record { start = b .start; end = b .end; left = v; right = b .right; «left_float» = true; «right_float» = b .«right_float»; «left_box» = BoxNumber.At k; «right_box» = b .«right_box» }
+marked FloatDirection.Right v k b = record { start = b .start; end = b .end; left = b .left; right = v; «left_float» = b .«left_float»; «right_float» = true; «left_box» = b .«left_box»; «right_box» = BoxNumber.At k }
 
 -- band i split at y
 unfoldable pub splitAt : List Segment → ℕ → Float → List Segment
@@ -51,12 +56,12 @@ splitAt (b ∷ bs) zero y = spanning b (b .start) y ∷ spanning b y (b .end) �
 splitAt (b ∷ bs) (suc i) y = b ∷ splitAt bs i y
 
 -- the bands from s to e marked
-unfoldable pub markAll : FloatDirection → (inset : Float) → List Segment → (start end : ℕ) → List Segment
-markAll d v [] s e = []
-markAll d v (b ∷ bs) zero zero = marked d v b ∷ bs
-markAll d v (b ∷ bs) zero (suc e) = marked d v b ∷ markAll d v bs zero e
-markAll d v (b ∷ bs) (suc s) zero = b ∷ bs
-markAll d v (b ∷ bs) (suc s) (suc e) = b ∷ markAll d v bs s e
+unfoldable pub markAll : FloatDirection → (inset : Float) (number : ℕ) → List Segment → (start end : ℕ) → List Segment
+markAll d v k [] s e = []
+markAll d v k (b ∷ bs) zero zero = marked d v k b ∷ bs
+markAll d v k (b ∷ bs) zero (suc e) = marked d v k b ∷ markAll d v k bs zero e
+markAll d v k (b ∷ bs) (suc s) zero = b ∷ bs
+markAll d v k (b ∷ bs) (suc s) (suc e) = b ∷ markAll d v k bs s e
 
 -- the last band's end, x where there is none
 unfoldable pub lastEnd : Float → List Segment → Float

@@ -137,14 +137,14 @@ make a l p =
     (startedAt a (splitAt l (p .start) (p .y)) (suc (p .start)) (suc (p .end)) (p .y)))
     (belowAll a l (endOf l) (p .y))
 
--- rule 8: the bands from start to end get placed inset + width and the mark; the side's kept numbers are raised to start and end + 1
+-- rule 8: the bands from start to end get placed inset + width, the mark and the box's number, counted over the boxes before it (1/14); the side's kept numbers are raised to start and end + 1
 abbrev pub keep : Kept → (start end : ℕ) → Kept
 keep k s e = record { first = max (k .first) s; past = max (k .past) (suc e) }
 
 abbrev pub recorded : Page → Ask → (inset : Float) → Made → Page
 recorded p a i m = record {
   width = p .width;
-  bands = markAll (a .side) (add binary32 i (a .width)) (m .bands) (m .start) (m .end);
+  bands = markAll (a .side) (add binary32 i (a .width)) (length (p .boxes)) (m .bands) (m .start) (m .end);
   boxes = p .boxes;
   leftBottom = p .leftBottom;
   rightBottom = p .rightBottom;

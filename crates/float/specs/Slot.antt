@@ -9,12 +9,14 @@ use Rattle.f32_laws.specs.Numbers.{larger, smaller}
 use Rattle.float.specs.declared.BandNumber.{BandNumber}
 use Rattle.float.specs.declared.BfcAnswer.{BfcAnswer}
 use Rattle.float.specs.declared.BfcSlot.{BfcSlot}
+use Rattle.float.specs.declared.BoxNumber.{BoxNumber}
 use Rattle.float.specs.declared.Clear.{Clear}
 use Rattle.float.specs.declared.ContentAnswer.{ContentAnswer}
 use Rattle.float.specs.declared.ContentSlot.{ContentSlot}
 use Rattle.float.specs.declared.Direction.{Direction}
 use Rattle.float.specs.declared.FloatDirection.{FloatDirection}
 use Rattle.float.specs.declared.FloatList.{FloatList}
+use Rattle.float.specs.declared.Innermost.{Innermost}
 use Rattle.float.specs.declared.PlacedFloatedBox.{PlacedFloatedBox}
 use Rattle.float.specs.declared.Segment.{Segment}
 use Rattle.float.specs.declared.Threshold.{Threshold}
@@ -25,8 +27,8 @@ use Rattle.float.specs.declared.bfc.BfcInsets.{BfcInsets}
 use Rattle.float.specs.declared.slot.Insets.{Insets}
 use Rattle.float.specs.declared.slot.Sought.{Sought}
 use Rattle.float.specs.Numbers.{size, offset, plusZero}
-use Rattle.float.specs.Refuse.{clearOf, directionOf, checkOf}
-use Rattle.float.specs.Bands.{none, onSide, sameSide, lead, hasFloat, lastEnd, firstBelow}
+use Rattle.float.specs.Refuse.{sideOf, clearOf, directionOf, checkOf}
+use Rattle.float.specs.Bands.{none, onSide, sameSide, lead, hasFloat, boxOn, lastEnd, firstBelow}
 use Rattle.float.specs.Page.{Page, front, noBox, maxBoxes}
 use Rattle.float.specs.Clear.{raiseTo, cleared, clearedPast}
 
@@ -49,6 +51,19 @@ hasActiveFloats p x =
 -- `cleared_threshold`: refusal 1
 unfoldable pub clearedThreshold : Page → ℕ → Threshold
 clearedThreshold p c = elim (checkOf (ltb c 4) []) [ Check.Passed ↦ Threshold.Answer (cleared p (clearOf c)) | Check.Refused n ↦ Threshold.Refused n ]
+
+-- the box last recorded in a band on a side; none where the mark is not set
+abbrev pub recordedOn : FloatDirection → Segment → BoxNumber
+recordedOn s b = cond (hasFloat s b) (boxOn s b) BoxNumber.None
+
+-- in the band with this number; none where there is no such band
+abbrev pub innermostOn : FloatDirection → List Segment → BandNumber → BoxNumber
+innermostOn s l BandNumber.None = BoxNumber.None
+innermostOn s l (BandNumber.At i) = recordedOn s (getD l i none)
+
+-- `innermost` (1/14): refusal 1
+unfoldable pub innermost : Page → BandNumber → ℕ → Innermost
+innermost p i s = elim (checkOf (ltb s 2) []) [ Check.Passed ↦ Innermost.Answer (innermostOn (sideOf s) (p .bands) i) | Check.Refused n ↦ Innermost.Refused n ]
 
 -- `left_floats` and `right_floats`: the boxes of one side, in order
 unfoldable pub ofSide : FloatDirection → List PlacedFloatedBox → List PlacedFloatedBox

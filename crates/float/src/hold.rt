@@ -242,7 +242,8 @@ pub fn enter(
         return entered(head, a, spot, plan::still(n, spot));
     }
     let z = band::last_end(n, last);
-    let p = plan::plan_of(n, z, a, spot, number::smaller_n(e, 95), first, end);
+    let k = number::smaller_n(head.box_count, 63) as u8;
+    let p = plan::plan_of(n, z, a, spot, k, number::smaller_n(e, 95), first, end);
     entered(head, a, spot, p)
 }
 

@@ -16,6 +16,7 @@ mod plan;
 mod refuse;
 mod search;
 mod slot;
+pub mod touch;
 
 // The side that a box floats to.
 pub enum FloatDirection {
@@ -69,7 +70,13 @@ pub enum BandNumber {
     At(usize),
 }
 
-// A band of the page: where it starts and ends, how far its two sides are taken, and whether a float stands there.
+// The number of an accepted box, counted from 0 over both sides, or none.
+pub enum BoxNumber {
+    None,
+    At(u8),
+}
+
+// A band of the page: where it starts and ends, how far its two sides are taken, whether a float stands there, and which box was recorded there last.
 pub struct Segment {
     pub start: f32,
     pub end: f32,
@@ -77,6 +84,8 @@ pub struct Segment {
     pub right: f32,
     pub left_float: bool,
     pub right_float: bool,
+    pub left_box: BoxNumber,
+    pub right_box: BoxNumber,
 }
 
 // An accepted box. Its inset is measured from the edge that it floats to.
@@ -157,6 +166,12 @@ pub enum YesNo {
 // The lowest bottom that a clear asks for, if any.
 pub enum Threshold {
     Answer(Bottom),
+    Refused(Refusal),
+}
+
+// The box that stands innermost in a band on one side, if any.
+pub enum Innermost {
+    Answer(BoxNumber),
     Refused(Refusal),
 }
 

@@ -1,5 +1,6 @@
 // A fresh page, and what a page tells of its boxes.
 use crate::Bottom;
+use crate::BoxNumber;
 use crate::FloatContext;
 use crate::FloatDirection;
 use crate::FloatList;
@@ -24,6 +25,8 @@ fn no_band() -> Segment
         right: 0.0,
         left_float: false,
         right_float: false,
+        left_box: BoxNumber::None,
+        right_box: BoxNumber::None,
     }
 }
 

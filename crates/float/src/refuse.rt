@@ -79,6 +79,13 @@ pub fn check_offset(x: f32) -> Check
     verdict(true, finite(x), offset_allowed(x))
 }
 
+// For a side alone.
+pub fn check_side(side: u8) -> Check
+    ensures { λ r. ⌜ r ≡ checkOf (ltb side 2) [] ⌝ }
+{
+    verdict(side < 2, true, true)
+}
+
 // For a clear alone.
 pub fn check_clear(clear: u8) -> Check
     ensures { λ r. ⌜ r ≡ checkOf (ltb clear 4) [] ⌝ }

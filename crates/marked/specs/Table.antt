@@ -1,4 +1,4 @@
--- Document 01's twelve marked examples and its tape as one table, and the theorem that the definitions give every figure in it.
+-- Document 01's twelve marked examples and its tape as one table, with the boxes that their bands name (1/14), and the theorem that the definitions give every figure in it.
 use Prim.Native.Nat.{ℕ}
 use mathlib.Core.Path.{_≡_, refl}
 use mathlib.Core.Bool.{Bool, true, false, _&&_, cond}
@@ -13,14 +13,14 @@ use Rattle.float.specs.declared.BandNumber.{BandNumber}
 use Rattle.float.specs.declared.FloatContext.{FloatContext}
 use Rattle.float.specs.Numbers.{plusZero, finite, within, inReach, allFinite, allAllowed}
 use Rattle.float.specs.Refuse.{checkOf}
-use Rattle.float.specs.Answers.{Value, float, count, truth, missing, Said, refused, values, saidPlace, saidDone, saidContent}
+use Rattle.float.specs.Answers.{Value, float, count, truth, missing, Said, refused, values, saidPlace, saidDone, saidContent, saidInnermost}
 use Rattle.float.specs.Bands.{splitAt, markAll, lastEnd, firstBelow}
 use Rattle.float.specs.Page.{pageOf, stored, front, freshContext}
 use Rattle.float.specs.Clear.{lower, raiseTo, cleared, clearedPast}
 use Rattle.float.specs.Fit.{passes, placedAt, fits}
 use Rattle.float.specs.Search.{joined, taller, highTurn, joinTurn, endTurn, fitTurn, startTurn, search, searchFrom}
 use Rattle.float.specs.Place.{Call, lowest, firstAllowed, spotOf, walked, make, high, flat, put, admitted, checked, place, placeOf, widthCheck, setWidth, widthOf}
-use Rattle.float.specs.Slot.{ContentCall, active, seek, contentSlot, content}
+use Rattle.float.specs.Slot.{ContentCall, innermost, active, seek, contentSlot, content}
 use Rattle.tape.specs.Bytes.{f32At, digits, float as floatText, decimals, decimal, fields}
 use Rattle.tape.specs.Record.{afterAt, readOf}
 use Rattle.tape.specs.Lines.{refusedLine, doneLine, placeLine, band, contentLine}
@@ -32,6 +32,8 @@ pub data Entry : Type 0 where
   width : Float → Said → Entry
   box : Call → Said → Entry
   bands : ℕ → Entry
+  touch : ℕ → ℕ → Said → Entry
+  names : ℕ → Value → Value → Entry
   slot : ContentCall → Said → Entry
   tape : List ℕ → List ℕ → Entry
 
@@ -63,6 +65,10 @@ same [] (y ∷ ys) = false
 same (x ∷ xs) [] = false
 same (x ∷ xs) (y ∷ ys) = eqb x y && same xs ys
 
+-- the box that stands innermost in the band i on the side d (1/14)
+abbrev pub touches : FloatContext → ℕ → ℕ → Said → Bool
+touches p i d s = same (told (saidInnermost (innermost (pageOf p) (BandNumber.At i) d))) (told s)
+
 -- ---- the table run from a page on: every entry must give what it says
 unfoldable pub holds : List Entry → FloatContext → Bool
 holds [] p = true
@@ -70,6 +76,8 @@ holds (fresh ∷ es) p = holds es (widthOf freshContext (n 100) .page)
 holds (width w s ∷ es) p = let r = widthOf p w in same (told (saidDone (r .answer))) (told s) && holds es (r .page)
 holds (box c s ∷ es) p = let r = placeOf p c in same (told (saidPlace (r .answer))) (told s) && holds es (r .page)
 holds (bands k ∷ es) p = eqb (length (pageOf p .bands)) k && holds es p
+holds (touch i d s ∷ es) p = touches p i d s && holds es p
+holds (names i l r ∷ es) p = touches p i 0 (values (l ∷ [])) && touches p i 1 (values (r ∷ [])) && holds es p
 holds (slot c s ∷ es) p = same (told (saidContent (content (pageOf p) c))) (told s) && holds es p
 holds (tape t ls ∷ es) p = same (linesOf t) ls && holds es p
 
@@ -111,22 +119,35 @@ firstLines =
 pub table : List Entry
 table =
     -- 1: two bands; 2; 3, clearing left
+    -- 1/14: the gap above names no box, a band added below the new one alone; a band that is not there, and an unknown side
     fresh
     ∷ left 10 10 0 0 0
     ∷ bands 2
+    ∷ names 0 missing missing
+    ∷ names 1 (count 0) missing
+    ∷ names 2 missing missing
+    ∷ touch 1 2 (refused 1)
     ∷ right 10 30 90 0 1
+    ∷ names 1 (count 0) (count 1)
+    ∷ names 2 missing (count 1)
     ∷ full 0 1 (n 10) (n 5) (n 0) (n 0) (n 0) (at 0 30 0)
-    -- 4
+    -- 4; 1/14: the box after it is the third
     ∷ fresh
     ∷ left 100 10 0 0 0
     ∷ left 50 0 0 0 1
-    -- 5, with insets 0 and 60; 6; 7: five bands as before it, for nothing is split at 55; 8
+    ∷ left 10 10 0 10 1
+    ∷ names 2 (count 2) missing
+    -- 5, with insets 0 and 60; 6; 7: five bands as before it, for nothing is split at 55; 8; 1/14: the parts of a split name the same box
     ∷ fresh
     ∷ left 10 30 0 0 0
     ∷ full 0 0 (n 10) (n 60) (n 0) (n 0) (n 60) (at 10 0 1)
     ∷ left 10 10 20 0 0
     ∷ right 5 20 95 0 1
+    ∷ names 1 (count 2) (count 3)
+    ∷ names 2 (count 1) (count 3)
+    ∷ names 3 (count 1) missing
     ∷ left 20 45 20 10 5
+    ∷ names 2 (count 4) (count 3)
     ∷ bands 5
     ∷ ask 56 0 (count 4) 40 56 0
     -- 9, content clearing left
@@ -151,5 +172,5 @@ table =
     ∷ []
 
 pub marked-examples : holds table freshContext ≡ true
-unfolding holds same allWritten table firstTape firstLines pageOf stored front freshContext lower raiseTo cleared clearedPast splitAt markAll lastEnd firstBelow passes placedAt fits joined taller highTurn joinTurn endTurn fitTurn startTurn search searchFrom plusZero finite within inReach allFinite allAllowed checkOf lowest firstAllowed spotOf walked make high flat put admitted checked place placeOf widthCheck setWidth widthOf active seek contentSlot content f32At digits floatText decimals decimal fields afterAt readOf refusedLine doneLine placeLine band contentLine freshState stepOf run linesOf larger smaller zero+ tol add sub lt le eq ofBits ofFields ofInt neg toBits sum round units odd size span climb trailingZeros
+unfolding innermost holds same allWritten table firstTape firstLines pageOf stored front freshContext lower raiseTo cleared clearedPast splitAt markAll lastEnd firstBelow passes placedAt fits joined taller highTurn joinTurn endTurn fitTurn startTurn search searchFrom plusZero finite within inReach allFinite allAllowed checkOf lowest firstAllowed spotOf walked make high flat put admitted checked place placeOf widthCheck setWidth widthOf active seek contentSlot content f32At digits floatText decimals decimal fields afterAt readOf refusedLine doneLine placeLine band contentLine freshState stepOf run linesOf larger smaller zero+ tol add sub lt le eq ofBits ofFields ofInt neg toBits sum round units odd size span climb trailingZeros
 marked-examples = refl

@@ -1,10 +1,17 @@
-// The boundary for C and Rust: the tape's run, on numbers and byte slices alone.
+// The boundary for C and Rust: the tape's run and a question on the page after it, on numbers and byte slices alone.
 ghost use mathlib.Core.Path.{_≡_};
-ghost use Rattle.tape.specs.Tape.{linesOf, returned, filled};
+ghost use Rattle.tape.specs.Tape.{linesOf, returned, filled, innermostAfter};
 
 #[no_mangle]
 pub extern "C" fn bulameki_run_tape(tape: &[u8], answers: &mut [u8]) -> i64
     ensures { λ r. ⌜ (r ≡ returned (linesOf (now (tape .entry))) (now (answers .entry))) × (now (answers .exit) ≡ filled (linesOf (now (tape .entry))) (now (answers .entry))) ⌝ }
 {
     tape::run_tape(tape, answers)
+}
+
+#[no_mangle]
+pub extern "C" fn bulameki_innermost(tape: &[u8], band: usize, side: u8) -> i64
+    ensures { λ r. ⌜ r ≡ innermostAfter (now (tape .entry)) band side ⌝ }
+{
+    tape::innermost(tape, band, side)
 }

@@ -12,6 +12,7 @@ use lib.ListN.{length}
 use Rattle.f32_laws.specs.Numbers.{zero+}
 use Rattle.float.specs.declared.Added.{Added}
 use Rattle.float.specs.declared.AvailableSpace.{AvailableSpace}
+use Rattle.float.specs.declared.BandNumber.{BandNumber}
 use Rattle.float.specs.declared.CalculatorAnswer.{CalculatorAnswer}
 use Rattle.float.specs.declared.FloatContext.{FloatContext}
 use Rattle.float.specs.declared.FloatDirection.{FloatDirection}
@@ -20,16 +21,16 @@ use Rattle.float.specs.declared.Refusal.{Refusal}
 use Rattle.float.specs.declared.refuse.Check.{Check}
 use Rattle.float.specs.Numbers.{farthest, plusZero, inReach, allFinite, allAllowed}
 use Rattle.float.specs.Refuse.{numberOf, sideOf, clearOf, checkOf}
-use Rattle.float.specs.Answers.{Value, Said, refused, values, saidPlace, saidDone, saidContent, saidBfc, saidStarted, saidYesNo, saidThreshold}
+use Rattle.float.specs.Answers.{Value, Said, refused, values, saidPlace, saidDone, saidContent, saidBfc, saidStarted, saidYesNo, saidThreshold, saidInnermost}
 use Rattle.float.specs.Page.{Page, pageOf}
 use Rattle.float.specs.Place.{Call, cleaned, Result, askOf, spotOf, near, high, flat, put, admitted, checked as checkedOf, place, placeOf, widthCheck, widthOf}
-use Rattle.float.specs.Slot.{ContentCall, BfcCall, hasActiveFloats, clearedThreshold, content as contentOf, bfc as bfcOf}
+use Rattle.float.specs.Slot.{ContentCall, BfcCall, hasActiveFloats, clearedThreshold, innermost as innermostOf, content as contentOf, bfc as bfcOf}
 use Rattle.float.specs.Calculator.{calculatorOf, zeroed, plusOn, added, addedSums, addOf}
 use Rattle.tape.specs.declared.record.Mode.{Mode}
 use Rattle.tape.specs.declared.step.Calculator.{Calculator}
 use Rattle.tape.specs.Lines.{refusedLine}
 use Rattle.tape.specs.Tape.{notAdded, startOf, addTo, resultLine, linesOf, returned}
-use Rattle.refusals.specs.Numbered.{Asked, handed, width, active, box, content, bfc, threshold, start, add-box, result, lines, Passes, Some, hasHeight, madeOf, yOf, sums, Applies, unknown-code, not-finite, out-of-limits, width-fixed, boxes-full, too-far, sums-too-far, bands-full, none-to-add-to, none-to-ask, no-room, Lowest}
+use Rattle.refusals.specs.Numbered.{Asked, handed, width, active, box, content, bfc, threshold, innermost, start, add-box, result, lines, Passes, Some, hasHeight, madeOf, yOf, sums, Applies, unknown-code, not-finite, out-of-limits, width-fixed, boxes-full, too-far, sums-too-far, bands-full, none-to-add-to, none-to-ask, no-room, Lowest}
 use Rattle.refusals.specs.Answered.{saidReturned, refusal, Refuses}
 use Rattle.refusals.proofs.Decimals.{one-number}
 use Rattle.refusals.proofs.Three.{Fails, allKnown, plus, and-also, and-last, not-passed, not-below, not-above}
@@ -54,6 +55,7 @@ top (box c) = 8
 top (content c) = 4
 top (bfc c) = 4
 top (threshold k) = 4
+top (innermost i s) = 4
 top (start m) = 4
 top (add-box w s k) = 9
 top result = 9
@@ -67,6 +69,7 @@ top-three (box c) = omega arith
 top-three (content c) = omega arith
 top-three (bfc c) = omega arith
 top-three (threshold k) = omega arith
+top-three (innermost i s) = omega arith
 top-three (start m) = omega arith
 top-three (add-box w s k) = omega arith
 top-three result = omega arith
@@ -112,6 +115,10 @@ module _ (p : FloatContext) (q : Calculator) where
   threshold-exactly : (k : ℕ) → Outcome (Refuses p q (threshold k)) (Applies (pageOf p) q (threshold k))
   unfolding clearedThreshold top
   threshold-exactly k = ask saidThreshold (threshold k) (λ n. refl) (accepted (threshold k) (λ n. not-refused n))
+
+  innermost-exactly : (i : BandNumber) (s : ℕ) → Outcome (Refuses p q (innermost i s)) (Applies (pageOf p) q (innermost i s))
+  unfolding innermostOf top
+  innermost-exactly i s = ask saidInnermost (innermost i s) (λ n. refl) (accepted (innermost i s) (λ n. not-refused n))
 
   start-exactly : (m : Mode) → Outcome (Refuses p q (start m)) (Applies (pageOf p) q (start m))
   unfolding startOf calculatorOf checkOf allFinite allAllowed top
@@ -279,6 +286,7 @@ outcome p q (box c) = box-exactly p q c
 outcome p q (content c) = content-exactly p q c
 outcome p q (bfc c) = bfc-exactly p q c
 outcome p q (threshold k) = threshold-exactly p q k
+outcome p q (innermost i s) = innermost-exactly p q i s
 outcome p q (start m) = start-exactly p q m
 outcome p q (add-box w s k) = add-exactly p w s k q
 outcome p q result = result-exactly p q

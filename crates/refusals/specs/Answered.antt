@@ -4,16 +4,16 @@ use mathlib.Core.Path.{_≡_}
 use mathlib.Core.List.{List, [], _∷_}
 use lib.IntN.{ℤ, pos, negsuc}
 use Rattle.float.specs.declared.FloatContext.{FloatContext}
-use Rattle.float.specs.Answers.{Said, refused, values, count, saidPlace, saidDone, saidContent, saidBfc, saidStarted, saidYesNo, saidThreshold}
+use Rattle.float.specs.Answers.{Said, refused, values, count, saidPlace, saidDone, saidContent, saidBfc, saidStarted, saidYesNo, saidThreshold, saidInnermost}
 use Rattle.float.specs.Page.{pageOf}
 use Rattle.float.specs.Place.{placeOf, widthOf}
-use Rattle.float.specs.Slot.{hasActiveFloats, clearedThreshold, content as contentOf, bfc as bfcOf}
+use Rattle.float.specs.Slot.{hasActiveFloats, clearedThreshold, innermost as innermostOf, content as contentOf, bfc as bfcOf}
 use Rattle.float.specs.Calculator.{addOf}
 use Rattle.tape.specs.declared.record.Record.{Record}
 use Rattle.tape.specs.declared.step.Calculator.{Calculator}
 use Rattle.tape.specs.Bytes.{decimal, row}
 use Rattle.tape.specs.Tape.{startOf, addTo, resultLine, linesOf, returned}
-use Rattle.refusals.specs.Numbered.{Asked, width, active, box, content, bfc, threshold, start, add-box, result, lines}
+use Rattle.refusals.specs.Numbered.{Asked, width, active, box, content, bfc, threshold, innermost, start, add-box, result, lines}
 
 -- what `run_tape` returns: how many bytes the lines have, or a refusal's number below zero
 abbrev pub saidReturned : ℤ → Said
@@ -32,6 +32,7 @@ Refuses p q (box c) n = saidPlace (placeOf p c .answer) ≡ refused n
 Refuses p q (content c) n = saidContent (contentOf (pageOf p) c) ≡ refused n
 Refuses p q (bfc c) n = saidBfc (bfcOf (pageOf p) c) ≡ refused n
 Refuses p q (threshold k) n = saidThreshold (clearedThreshold (pageOf p) k) ≡ refused n
+Refuses p q (innermost i s) n = saidInnermost (innermostOf (pageOf p) i s) ≡ refused n
 Refuses p q (start m) n = saidStarted (startOf m) ≡ refused n
 Refuses p (Calculator.One c) (add-box w s k) n = saidDone (addOf c w s k .answer) ≡ refused n
 Refuses p Calculator.None (add-box w s k) n = addTo Calculator.None w s k .line ≡ refusal n

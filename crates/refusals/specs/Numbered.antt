@@ -9,6 +9,7 @@ use lib.Ieee.{Float, nan, inf, binary32, add, lt, le, eq}
 use lib.ListN.{length}
 use Rattle.f32_laws.specs.Numbers.{zero+}
 use Rattle.float.specs.declared.AvailableSpace.{AvailableSpace}
+use Rattle.float.specs.declared.BandNumber.{BandNumber}
 use Rattle.float.specs.declared.FloatDirection.{FloatDirection}
 use Rattle.float.specs.declared.FloatIntrinsicWidthCalculator.{FloatIntrinsicWidthCalculator}
 use Rattle.float.specs.Numbers.{most, least, farthest, plusZero, Given, size, offset, value}
@@ -21,7 +22,7 @@ use Rattle.tape.specs.declared.record.Mode.{Mode}
 use Rattle.tape.specs.declared.step.Calculator.{Calculator}
 use Rattle.tape.specs.Tape.{linesOf}
 
--- What can be asked, as it is handed in. Of a page: a width, has_active_floats at a min_y, a box, the two slot questions, cleared_threshold of a clear.
+-- What can be asked, as it is handed in. Of a page: a width, has_active_floats at a min_y, a box, the two slot questions, cleared_threshold of a clear, innermost of a band and a side.
 -- Of a calculator: start with a mode, add a width, side and clear, the result. Of a tape: its lines, into the room lent for them.
 pub data Asked : Type 0 where
   width active : Float → Asked
@@ -29,6 +30,7 @@ pub data Asked : Type 0 where
   content : ContentCall → Asked
   bfc : BfcCall → Asked
   threshold : ℕ → Asked
+  innermost : BandNumber → ℕ → Asked
   start : Mode → Asked
   add-box : Float → ℕ → ℕ → Asked
   result : Asked
@@ -46,6 +48,7 @@ handed (box c) = record { codes = (c .side, 2) ∷ (c .clear, 4) ∷ []; numbers
 handed (content c) = record { codes = (c .clear, 4) ∷ []; numbers = offset (c .minY) ∷ size (c .left) ∷ size (c .right) ∷ [] }
 handed (bfc c) = record { codes = (c .direction, 2) ∷ (c .clear, 4) ∷ []; numbers = offset (c .minY) ∷ size (c .left) ∷ size (c .right) ∷ offset (c .leftMargin) ∷ offset (c .rightMargin) ∷ [] }
 handed (threshold k) = record { codes = (k, 4) ∷ []; numbers = [] }
+handed (innermost i s) = record { codes = (s, 2) ∷ []; numbers = [] }
 handed (start (Mode.Known (AvailableSpace.Definite w))) = record { codes = []; numbers = size w ∷ [] }
 handed (start (Mode.Known AvailableSpace.MinContent)) = record { codes = []; numbers = [] }
 handed (start (Mode.Known AvailableSpace.MaxContent)) = record { codes = []; numbers = [] }

@@ -1,5 +1,5 @@
--- The loop over a tape: the lines so far, and what is left of it.
-use Prim.Native.Nat.{ℕ, suc, _+_, _-_, _*_, _≤_, _<_}
+-- The loop over a tape: the lines so far, what is left of it, and the page that it ends with.
+use Prim.Native.Nat.{ℕ, suc, _+_, _-_, _*_, _≤_, _<_, min}
 use mathlib.Core.Path.{_≡_, sym, ap, _∙_, subst⁻¹}
 use mathlib.Core.List.{List, [], _∷_, _++_, append-nil, append-assoc}
 use native.Mathlib.Numerals.{add-one}
@@ -10,35 +10,39 @@ use lib.Seq.{drop-cons, drop-drop, take-all}
 use Rattle.float.specs.declared.Head.{Head}
 use Rattle.float.specs.declared.PlacedFloatedBox.{PlacedFloatedBox}
 use Rattle.float.specs.declared.Segment.{Segment}
+use Rattle.float.specs.Bands.{none}
 use Rattle.float.specs.Head.{pageWith}
+use Rattle.float.specs.Page.{Page, pageOf}
 use Rattle.tape.specs.declared.step.Calculator.{Calculator}
 use Rattle.tape.specs.declared.step.State.{State}
-use Rattle.tape.specs.Put.{Put, Turned, Answered, freshHead, stateOf}
-use Rattle.tape.specs.Tape.{run, linesOf}
+use Rattle.tape.specs.Put.{Put, Turned, Ends, freshHead, stateOf}
+use Rattle.tape.specs.Tape.{run, linesOf, runs, pageAfter}
 use Rattle.tape.proofs.Held.{fresh-same}
 use Rattle.tape.proofs.Putting.{then, nothing}
-use Rattle.tape.proofs.Running.{run-none}
-use Rattle.tape.proofs.Same.{run-same}
+use Rattle.tape.proofs.Running.{run-none, runs-none}
+use Rattle.tape.proofs.Same.{run-same, runs-same}
 
--- at the offset i of the tape t, in the state s: the lines so far were put at the front of a₀, which is then a, and have n bytes
+-- at the offset i of the tape t, in the state s: the lines so far were put at the front of a₀, which is then a, and have n bytes; the rest of the tape leaves the page that the whole leaves
 pub record Going (t a₀ a : List ℕ) (s : State) (i n : ℕ) : Type 0 where
   pub done : List ℕ
   pub fuel : ℕ
   pub enough : length t ≤ i + fuel
   pub inside : i ≤ length t
   pub whole : linesOf t ≡ done ++ run fuel i (drop i t) s
+  pub ends : pageOf (runs fuel (drop i t) s .page) ≡ pageOf (pageAfter t)
   pub few : n ≤ 11 * i
   pub put : Put a₀ 0 done a n
 
 -- at the start: a fresh head is a fresh page, whatever stands in the arrays
 pub going-fresh : (t a : List ℕ) (h : Head) (bs : List Segment) (xs : List PlacedFloatedBox) → h ≡ freshHead → length t ≤ 65536 → Going t a a (stateOf (pageWith h bs xs) Calculator.None) 0 0
-unfolding linesOf
+unfolding linesOf pageAfter
 going-fresh t a h bs xs e k = record {
   done = [];
   fuel = length t;
   enough = omega arith;
   inside = omega arith;
   whole = rw (le-leb (length t) 65536 k, linesOf) (run-same (length t) 0 t (fresh-same h bs xs e));
+  ends = rw (le-leb (length t) 65536 k, pageAfter) (sym (runs-same (length t) t (fresh-same h bs xs e) .page));
   few = omega arith;
   put = nothing a;
 }
@@ -57,13 +61,27 @@ module _ (t a₀ : List ℕ) {a b : List ℕ} {s s' : State} {i n m r : ℕ} (g 
   rest : drop (m - suc i) (take (length t - (i + 1)) (drop (i + 1) t)) ≡ drop m t
   rest = ap (drop (m - suc i)) body ∙ drop-drop (m - suc i) (suc i) t ∙ ap (λ (x : ℕ). drop x t) (let w = q .on in let e : suc i + (m - suc i) ≡ m = omega arith in e)
 
+  more : g .fuel ≡ suc left
+  more = let e = g .enough in omega arith
+
+  here : drop i t ≡ getD t i 0 ∷ take (length t - (i + 1)) (drop (i + 1) t)
+  here = drop-cons t i 0 h ∙ ap (λ (x : List ℕ). getD t i 0 ∷ x) (sym body)
+
   next : linesOf t ≡ (g .done ++ q .line) ++ run left m (drop m t) s'
   next =
       g .whole
-      ∙ ap (λ (x : ℕ). g .done ++ run x i (drop i t) s) (let e = g .enough in let f : g .fuel ≡ suc left = omega arith in f)
-      ∙ ap (λ (x : List ℕ). g .done ++ run (suc left) i x s) (drop-cons t i 0 h ∙ ap (λ (x : List ℕ). getD t i 0 ∷ x) (sym body))
+      ∙ ap (λ (x : ℕ). g .done ++ run x i (drop i t) s) more
+      ∙ ap (λ (x : List ℕ). g .done ++ run (suc left) i x s) here
       ∙ ap (λ (x : List ℕ). g .done ++ x) (q .goes left ∙ ap (λ (x : List ℕ). q .line ++ run left m x s') rest)
       ∙ sym (append-assoc (g .done) (q .line) (run left m (drop m t) s'))
+
+  page-next : pageOf (runs left (drop m t) s' .page) ≡ pageOf (pageAfter t)
+  page-next =
+      ap (λ (x : List ℕ). pageOf (runs left x s' .page)) (sym rest)
+      ∙ sym (q .leaves left)
+      ∙ ap (λ (x : List ℕ). pageOf (runs (suc left) x s .page)) (sym here)
+      ∙ ap (λ (x : ℕ). pageOf (runs x (drop i t) s .page)) (sym more)
+      ∙ g .ends
 
   pub going-more : Going t a₀ b s' m r
   going-more = record {
@@ -72,14 +90,23 @@ module _ (t a₀ : List ℕ) {a b : List ℕ} {s s' : State} {i n m r : ℕ} (g 
     enough = let x = g .enough in let y = q .on in omega arith;
     inside = on-to;
     whole = next;
+    ends = page-next;
     few = let x = g .few in let y = q .few in let z = q .on in let e = q .put .next in omega arith;
     put = then (g .put) (q .put);
   }
 
-pub going-done : (t a₀ : List ℕ) {a : List ℕ} {s : State} {i n : ℕ} → Going t a₀ a s i n → length t ≤ i → length t ≤ 65536 → Answered t a₀ a n
-going-done t a₀ {a} {s} {i} {n} g h k =
-    let e : linesOf t ≡ g .done = g .whole ∙ ap (λ (x : List ℕ). g .done ++ run (g .fuel) i x s) (drop-of-length-le t h) ∙ ap (λ (x : List ℕ). g .done ++ x) (run-none (g .fuel) i s) ∙ append-nil (g .done) in
+pub going-done : (t a₀ : List ℕ) {a : List ℕ} {h : Head} {bs : List Segment} {xs : List PlacedFloatedBox} {c : Calculator} {i n k p : ℕ} → Going t a₀ a (stateOf (pageWith h bs xs) c) i n → length t ≤ i → length t ≤ 65536 → length bs ≡ 96 → p ≡ min k 95 → Ends t a₀ a k (record { end = n; count = h .count; band = getD bs p none })
+unfolding pageOf
+going-done t a₀ {a} {h} {bs} {xs} {c} {i} {n} {k} {p} g o l w e =
+    let s = stateOf (pageWith h bs xs) c in
+    let f : linesOf t ≡ g .done = g .whole ∙ ap (λ (x : List ℕ). g .done ++ run (g .fuel) i x s) (drop-of-length-le t o) ∙ ap (λ (x : List ℕ). g .done ++ x) (run-none (g .fuel) i s) ∙ append-nil (g .done) in
     record {
-      few = let x = g .few in let y = g .inside in omega arith;
-      put = subst⁻¹ (λ (x : List ℕ). Put a₀ 0 x a n) e (g .put);
+      answered = record {
+        few = let x = g .few in let y = g .inside in omega arith;
+        put = subst⁻¹ (λ (x : List ℕ). Put a₀ 0 x a n) f (g .put);
+      };
+      bands = bs;
+      long = w;
+      live = ap (λ (q : Page). q .bands) (sym (g .ends) ∙ ap (λ (x : State). pageOf (x .page)) (ap (λ (x : List ℕ). runs (g .fuel) x s) (drop-of-length-le t o) ∙ runs-none (g .fuel) s));
+      picked = ap (λ (x : ℕ). getD bs x none) e;
     }

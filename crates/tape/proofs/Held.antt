@@ -6,7 +6,7 @@ use mathlib.Core.List.{List, []}
 use native.Mathlib.Decide.{decLe}
 use native.Mathlib.Omega.{arith}
 use lib.Ieee.{Float}
-use lib.ListN.{length, length-replicate}
+use lib.ListN.{length}
 use Rattle.float.specs.declared.BandNumber.{BandNumber}
 use Rattle.float.specs.declared.BfcAnswer.{BfcAnswer}
 use Rattle.float.specs.declared.ContentAnswer.{ContentAnswer}
@@ -19,10 +19,8 @@ use Rattle.float.specs.declared.PlacedFloatedBox.{PlacedFloatedBox}
 use Rattle.float.specs.declared.Refusal.{Refusal}
 use Rattle.float.specs.declared.Segment.{Segment}
 use Rattle.float.specs.declared.Widened.{Widened}
-use Rattle.f32_laws.specs.Numbers.{zero+}
-use Rattle.float.specs.Bands.{bare}
 use Rattle.float.specs.Head.{pageWith}
-use Rattle.float.specs.Page.{pageOf, freshContext, noBox}
+use Rattle.float.specs.Page.{pageOf, freshContext}
 use Rattle.float.specs.Place.{Call, placeOf, widthOf}
 use Rattle.float.specs.Slot.{ContentCall, BfcCall, content, bfc}
 use Rattle.float.specs.declared.ask.Quest.{Quest}
@@ -94,15 +92,6 @@ module _ (h : Head) (bs : List Segment) (xs : List PlacedFloatedBox) (k : Calcul
 -- a page is that of its parts
 pub of-parts : {x : Placed} {a : PlaceAnswer} {h h' : Head} {bs bs' : List Segment} {xs xs' : List PlacedFloatedBox} → x ≡ record { answer = a; page = pageWith h bs xs } → h' ≡ h → bs' ≡ bs → xs' ≡ xs → x ≡ record { answer = a; page = pageWith h' bs' xs' }
 of-parts e f g k = cc
-
--- the arrays of a fresh page
-pub bands-long : {p : FloatContext} → p ≡ freshContext → length (p .bands) ≡ 96
-unfolding freshContext
-bands-long e = ap (λ (q : FloatContext). length (q .bands)) e ∙ length-replicate {A = Segment} 96 (bare zero+ zero+ zero+ zero+)
-
-pub boxes-long : {p : FloatContext} → p ≡ freshContext → length (p .boxes) ≡ 64
-unfolding freshContext
-boxes-long e = ap (λ (q : FloatContext). length (q .boxes)) e ∙ length-replicate {A = PlacedFloatedBox} 64 noBox
 
 -- a question that was read is whole
 pub record Asked (r : Read) : Type 0 where

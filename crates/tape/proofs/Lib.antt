@@ -8,4 +8,5 @@ pub mod Stepping
 pub mod Running
 pub mod Going
 pub mod Room
+pub mod AfterTape
 pub mod Lengths

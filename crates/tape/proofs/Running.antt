@@ -1,4 +1,4 @@
--- A run, record by record: what one turn does to the lines that are left.
+-- A run, record by record: what one turn does to the lines that are left, and to the page at the end.
 use Prim.Native.Nat.{ℕ, zero, suc, _+_, _-_, _≤_, _<_}
 use mathlib.Core.Bool.{Bool, true, false, _&&_, cond}
 use mathlib.Core.Logic.{⊎-elim}
@@ -10,15 +10,16 @@ use lib.Dec.{ltb, leb}
 use lib.ListN.{length, drop, drop-of-length-le}
 use Rattle.float.specs.declared.Head.{Head}
 use Rattle.float.specs.declared.Refusal.{Refusal}
+use Rattle.float.specs.Page.{pageOf}
 use Rattle.tape.specs.declared.record.Read.{Read}
 use Rattle.tape.specs.declared.record.Record.{Record}
 use Rattle.tape.specs.declared.step.State.{State}
 use Rattle.tape.specs.Bytes.{decimal, row}
 use Rattle.tape.specs.Put.{Line, Leaves, Unplaced, Turned}
 use Rattle.tape.specs.Record.{bodyLen, recordOf, readOf}
-use Rattle.tape.specs.Tape.{stepOf, run}
+use Rattle.tape.specs.Tape.{stepOf, run, runs}
 use Rattle.tape.proofs.Lengths.{by-kind, length-offset}
-use Rattle.tape.proofs.Same.{run-same}
+use Rattle.tape.proofs.Same.{run-same, runs-same}
 
 -- a body that was read is whole
 passed : (t : Bool) (x : Record) {r : Record} → cond t (Read.Whole x) Read.Broken ≡ Read.Whole r → t ≡ true
@@ -62,6 +63,11 @@ unfolding run
 run-none zero i s = refl
 run-none (suc f) i s = refl
 
+pub runs-none : (f : ℕ) (s : State) → runs f [] s ≡ s
+unfolding runs
+runs-none zero s = refl
+runs-none (suc f) s = refl
+
 module _ (s₀ : State) (k : ℕ) (b : List ℕ) (i : ℕ) where
   goes-whole : (f : ℕ) {r : Record} → readOf k b ≡ Read.Whole r → run (suc f) i (k ∷ b) s₀ ≡ stepOf s₀ r .line ++ run f (suc (i + bodyLen k)) (drop (bodyLen k) b) (stepOf s₀ r .after)
   unfolding run
@@ -70,6 +76,14 @@ module _ (s₀ : State) (k : ℕ) (b : List ℕ) (i : ℕ) where
   goes-broken : (f : ℕ) → readOf k b ≡ Read.Broken → run (suc f) i (k ∷ b) s₀ ≡ row 84 (decimal i ∷ [])
   unfolding run
   goes-broken f e = rw (e, run)
+
+  leaves-whole : (f : ℕ) {r : Record} → readOf k b ≡ Read.Whole r → runs (suc f) (k ∷ b) s₀ ≡ runs f (drop (bodyLen k) b) (stepOf s₀ r .after)
+  unfolding runs
+  leaves-whole f e = rw (e, runs)
+
+  leaves-broken : (f : ℕ) → readOf k b ≡ Read.Broken → runs (suc f) (k ∷ b) s₀ ≡ s₀
+  unfolding runs
+  leaves-broken f e = rw (e, runs)
 
   pub turned-whole : {r : Record} {s : State} {l₀ l : List ℕ} {p q m : ℕ} → readOf k b ≡ Read.Whole r → Leaves (stepOf s₀ r) s l₀ p l q → m ≡ bodyLen k → Turned s₀ k b i s (i + 1 + m) l₀ p l q
   turned-whole {r} {s} {l₀} {l} {p} {q} {m} e t h = record {
@@ -80,6 +94,11 @@ module _ (s₀ : State) (k : ℕ) (b : List ℕ) (i : ℕ) where
         let g = goes-whole f e in
         let w = run-same f (i + 1 + m) (drop (bodyLen k) b) (t .after) in
         cc;
+    leaves = λ f.
+        let d : bodyLen k ≡ i + 1 + m - suc i = omega arith in
+        ap (λ (x : State). pageOf (x .page)) (leaves-whole f e)
+        ∙ sym (runs-same f (drop (bodyLen k) b) (t .after) .page)
+        ∙ ap (λ (x : ℕ). pageOf (runs f (drop x b) s .page)) d;
     on = omega arith;
     within = let g = body-fits k b e in omega arith;
     few =
@@ -97,6 +116,7 @@ module _ (s₀ : State) (k : ℕ) (b : List ℕ) (i : ℕ) where
         goes-broken f e
         ∙ sym (append-nil (row 84 (decimal i ∷ [])))
         ∙ ap (λ (x : List ℕ). row 84 (decimal i ∷ []) ++ x) (sym (ap (λ (x : List ℕ). run f n x s₀) (drop-of-length-le b {i = n - suc i} (omega arith)) ∙ run-none f n s₀));
+    leaves = λ f. ap (λ (x : State). pageOf (x .page)) (leaves-broken f e ∙ sym (ap (λ (x : List ℕ). runs f x s₀) (drop-of-length-le b {i = n - suc i} (omega arith)) ∙ runs-none f s₀));
     on = omega arith;
     within = omega arith;
     few = let d = length-offset i u in omega arith;

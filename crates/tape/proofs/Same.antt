@@ -1,4 +1,4 @@
--- A run sees of a struct only the page that it holds: states that differ in dead places alone print the same lines.
+-- A run sees of a struct only the page that it holds: states that differ in dead places alone print the same lines, and leave such states.
 use Prim.Native.Nat.{ℕ, zero, suc, _+_}
 use mathlib.Core.Path.{_≡_, refl, sym, ap, _∙_}
 use mathlib.Core.List.{List, [], _∷_, _++_}
@@ -17,7 +17,7 @@ use Rattle.tape.specs.declared.step.State.{State}
 use Rattle.tape.specs.Bytes.{decimal, row}
 use Rattle.tape.specs.Put.{SameState}
 use Rattle.tape.specs.Record.{bodyLen, readOf}
-use Rattle.tape.specs.Tape.{stepOf, run}
+use Rattle.tape.specs.Tape.{stepOf, run, runs}
 
 page-stored : (q : Page) (p : FloatContext) → pageOf (stored q p) ≡ q
 unfolding pageOf stored front
@@ -93,3 +93,15 @@ run-same (suc f) i (k ∷ b) {s} {t} h = go (λ r. run-same f (suc (i + bodyLen 
         ap (λ (l : List ℕ). l ++ run f (suc (i + bodyLen k)) (drop (bodyLen k) b) (stepOf s r .after)) (line-same s t h r)
         ∙ ap (λ (l : List ℕ). stepOf t r .line ++ l) (g r)
     go g Read.Broken = refl
+
+pub runs-same : (f : ℕ) (b : List ℕ) {s t : State} → SameState s t → SameState (runs f b s) (runs f b t)
+unfolding runs
+runs-same zero b h = h
+runs-same (suc f) [] h = h
+runs-same (suc f) (k ∷ b) {s} {t} h = go (λ r. runs-same f (drop (bodyLen k) b) (step-same s t h r)) (readOf k b)
+  where
+    go : ((r : Record) → SameState (runs f (drop (bodyLen k) b) (stepOf s r .after)) (runs f (drop (bodyLen k) b) (stepOf t r .after)))
+        → (x : Read)
+        → SameState (elim x [ Read.Whole r ↦ runs f (drop (bodyLen k) b) (stepOf s r .after) | Read.Broken ↦ s ]) (elim x [ Read.Whole r ↦ runs f (drop (bodyLen k) b) (stepOf t r .after) | Read.Broken ↦ t ])
+    go g (Read.Whole r) = g r
+    go g Read.Broken = h

@@ -4,7 +4,7 @@ use mathlib.Core.Logic.{_⊎_}
 use mathlib.Core.Path.{_≡_}
 use mathlib.Core.Bool.{Bool, true, false}
 use mathlib.Core.List.{List, _∷_, _++_}
-use lib.ListN.{length, take, drop}
+use lib.ListN.{length, take, drop, getD}
 use Rattle.f32_laws.specs.Numbers.{zero+}
 use Rattle.float.specs.declared.Bottom.{Bottom}
 use Rattle.float.specs.declared.FloatContext.{FloatContext}
@@ -14,6 +14,7 @@ use Rattle.float.specs.declared.PlacedFloatedBox.{PlacedFloatedBox}
 use Rattle.float.specs.declared.Refusal.{Refusal}
 use Rattle.float.specs.declared.Segment.{Segment}
 use Rattle.float.specs.declared.refuse.Check.{Check}
+use Rattle.float.specs.Bands.{none}
 use Rattle.float.specs.Head.{pageWith}
 use Rattle.float.specs.Page.{pageOf}
 use Rattle.float.specs.Place.{Call, placeOf}
@@ -23,10 +24,11 @@ use Rattle.tape.specs.declared.record.Read.{Read}
 use Rattle.tape.specs.declared.record.Record.{Record}
 use Rattle.float.specs.Hold.{Admits}
 use Rattle.float.specs.Quest.{contentQuest, bfcQuest}
+use Rattle.tape.specs.declared.run.Ended.{Ended}
 use Rattle.tape.specs.declared.step.Calculator.{Calculator}
 use Rattle.tape.specs.declared.step.State.{State}
 use Rattle.tape.specs.Record.{placeRecord}
-use Rattle.tape.specs.Tape.{Told, run, linesOf}
+use Rattle.tape.specs.Tape.{Told, run, linesOf, runs, pageAfter}
 
 -- no line ends past this: eleven bytes for each byte of the longest tape, and a line
 abbrev pub reach : ℕ
@@ -120,10 +122,11 @@ abbrev pub questOf : Head → Read → Quest
 questOf p (Read.Whole r) = questIn p r
 questOf p Read.Broken = noQuest
 
--- the record of the kind k and the body b at the offset i was run: s is the state after it, n the next offset, and its line was put at p into l, which is then m, and ends at r
+-- the record of the kind k and the body b at the offset i was run: s is the state after it, up to dead places, n the next offset, and its line was put at p into l, which is then m, and ends at r
 pub record Turned (s₀ : State) (k : ℕ) (b : List ℕ) (i : ℕ) (s : State) (n : ℕ) (l : List ℕ) (p : ℕ) (m : List ℕ) (r : ℕ) : Type 0 where
   pub line : List ℕ
   pub goes : (f : ℕ) → run (suc f) i (k ∷ b) s₀ ≡ line ++ run f n (drop (n - suc i) b) s
+  pub leaves : (f : ℕ) → pageOf (runs (suc f) (k ∷ b) s₀ .page) ≡ pageOf (runs f (drop (n - suc i) b) s .page)
   pub on : i < n
   pub within : n ≤ suc i + length b
   pub few : length line ≤ 11 * (n - i)
@@ -133,6 +136,14 @@ pub record Turned (s₀ : State) (k : ℕ) (b : List ℕ) (i : ℕ) (s : State) 
 pub record Answered (t a b : List ℕ) (r : ℕ) : Type 0 where
   pub few : r ≤ 11 * min (length t) 65536
   pub put : Put a 0 (linesOf t) b r
+
+-- the same, and what the run left: r has the end of the lines, the number of bands, and what stands at the place k of their array, or at the last
+pub record Ends (t a b : List ℕ) (k : ℕ) (r : Ended) : Type 0 where
+  pub answered : Answered t a b (r .end)
+  pub bands : List Segment
+  pub long : length bands ≡ 96
+  pub live : pageOf (pageAfter t) .bands ≡ take (r .count) bands
+  pub picked : r .band ≡ getD bands (min k 95) none
 
 -- the room a takes the lines of the tape t: they are known to fit, or there are eleven bytes for each byte of the tape
 abbrev pub Roomy : List ℕ → List ℕ → Type 0

@@ -7,8 +7,11 @@ use lib.Ieee.{Float}
 use lib.IntN.{ℤ, pos, negℤ}
 use lib.ListN.{length, drop}
 use Rattle.float.specs.declared.Added.{Added}
+use Rattle.float.specs.declared.BandNumber.{BandNumber}
+use Rattle.float.specs.declared.BoxNumber.{BoxNumber}
 use Rattle.float.specs.declared.CalculatorAnswer.{CalculatorAnswer}
 use Rattle.float.specs.declared.FloatContext.{FloatContext}
+use Rattle.float.specs.declared.Innermost.{Innermost}
 use Rattle.float.specs.declared.Placed.{Placed}
 use Rattle.float.specs.declared.Refusal.{Refusal}
 use Rattle.float.specs.declared.Widened.{Widened}
@@ -16,7 +19,7 @@ use Rattle.float.specs.declared.refuse.Check.{Check}
 use Rattle.float.specs.Refuse.{numberOf}
 use Rattle.float.specs.Page.{pageOf, front, freshContext}
 use Rattle.float.specs.Place.{placeOf, widthOf}
-use Rattle.float.specs.Slot.{content, bfc}
+use Rattle.float.specs.Slot.{innermost, content, bfc}
 use Rattle.float.specs.Calculator.{calculatorOf, addCheck, addOf, resultOf}
 use Rattle.tape.specs.declared.record.Mode.{Mode}
 use Rattle.tape.specs.declared.record.Read.{Read}
@@ -101,6 +104,26 @@ run (suc f) i (k ∷ body) s =
 -- a tape starts on a fresh page with no calculator; over 65,536 bytes: the one line L
 unfoldable pub linesOf : List ℕ → List ℕ
 linesOf t = elim (leb (length t) 65536) [ true ↦ run (length t) 0 t freshState | false ↦ row 76 [] ]
+
+-- what stands after the records of a tape, up to the first that is broken
+unfoldable pub runs : ℕ → List ℕ → State → State
+runs zero t s = s
+runs (suc f) [] s = s
+runs (suc f) (k ∷ body) s = elim (readOf k body) [ Read.Whole r ↦ runs f (drop (bodyLen k) body) (stepOf s r .after) | Read.Broken ↦ s ]
+
+-- the page after a tape, as far as it runs; over 65,536 bytes it does not
+unfoldable pub pageAfter : List ℕ → FloatContext
+pageAfter t = elim (leb (length t) 65536) [ true ↦ runs (length t) t freshState .page | false ↦ freshContext ]
+
+-- an answer about a box, returned to C (1/14): its number, -100 for none, or a refusal's number below zero
+abbrev pub returnedBox : Innermost → ℤ
+returnedBox (Innermost.Answer (BoxNumber.At k)) = pos k
+returnedBox (Innermost.Answer BoxNumber.None) = negℤ (pos 100)
+returnedBox (Innermost.Refused n) = negℤ (pos (numberOf n))
+
+-- which box stands innermost in a band on a side of that page
+unfoldable pub innermostAfter : List ℕ → (band side : ℕ) → ℤ
+innermostAfter t i s = returnedBox (innermost (pageOf (pageAfter t)) (BandNumber.At i) s)
 
 -- the lines ls and the room a: what is returned, and what then stands in the room; 13, and nothing is written, where it is shorter than they are
 unfoldable pub returned : List ℕ → List ℕ → ℤ

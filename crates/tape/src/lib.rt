@@ -4,8 +4,10 @@ mod line;
 mod record;
 mod run;
 mod step;
+mod touch;
 
 use crate::run::lines;
+pub use crate::touch::innermost;
 ghost use mathlib.Core.Path.{_≡_};
 ghost use Rattle.tape.specs.Put.{Roomy};
 ghost use Rattle.tape.specs.Tape.{linesOf, returned, filled};

@@ -114,7 +114,7 @@ pub fn number_line(room: &mut [u8], at: usize, letter: u8, n: usize) -> usize
     put(room, b, b'\n')
 }
 
-fn number_of(n: Refusal) -> usize
+pub fn number_of(n: Refusal) -> usize
     ensures { λ r. ⌜ r ≡ numberOf n ⌝ }
 {
     match n {

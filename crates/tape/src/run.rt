@@ -9,11 +9,13 @@ use crate::step::Calculator;
 use crate::step::asking;
 use crate::step::found_line;
 use crate::step::fresh_head;
+use crate::step::no_band;
+use crate::step::no_box;
 use crate::step::placing;
 use crate::step::rest_of;
-use float::FloatContext;
 use float::Head;
 use float::Refusal;
+use float::Segment;
 use float::hold;
 ghost use mathlib.Core.Bool.{false};
 ghost use mathlib.Core.List.{List};
@@ -24,7 +26,7 @@ ghost use Rattle.float.specs.declared.PlacedFloatedBox.{PlacedFloatedBox as Box
 ghost use Rattle.float.specs.declared.Segment.{Segment as SegmentOf};
 ghost use Rattle.float.specs.Head.{pageWith};
 ghost use Rattle.tape.specs.Record.{readOf};
-ghost use Rattle.tape.specs.Put.{Turned, Answered, Unplaced, asksOf, stateOf, reach};
+ghost use Rattle.tape.specs.Put.{Turned, Answered, Ends, Unplaced, asksOf, stateOf, reach};
 
 // The head and the calculator after a record, the offset of the next, and where its line ends.
 struct Ran {
@@ -94,13 +96,21 @@ fn last_of(n: usize) -> usize
     if n == 0 { 0 } else { n - 1 }
 }
 
-fn records(tape: &[u8], answers: &mut [u8]) -> usize
+// What a run leaves: where its lines end, how many bands the page has, and the band at the place that was asked for.
+pub struct Ended {
+    pub end: usize,
+    pub count: usize,
+    pub band: Segment,
+}
+
+pub fn records(tape: &[u8], answers: &mut [u8], pick: usize) -> Ended
     requires { ⌜ length (now tape) ≤ 65536 ⌝ }
-    ensures { λ r. ⌜ Answered (now (tape .entry)) (now (answers .entry)) (now (answers .exit)) r ⌝ }
+    ensures { λ r. ⌜ Ends (now (tape .entry)) (now (answers .entry)) (now (answers .exit)) pick r ⌝ }
 {
-    let page = FloatContext::new();
-    let mut bands = page.bands;
-    let mut boxes = page.boxes;
+    let band = no_band();
+    let b = no_box();
+    let mut bands = [band; 96];
+    let mut boxes = [b; 64];
     let mut head = fresh_head();
     let mut calculator = Calculator::None;
     let mut at = 0;
@@ -189,7 +199,12 @@ fn records(tape: &[u8], answers: &mut [u8]) -> usize
         to = t.end;
         at = t.next;
     }
-    to
+    let picked = bands[placed(pick)];
+    Ended {
+        end: to,
+        count: head.count,
+        band: picked,
+    }
 }
 
 // Counts the bytes of the lines, and writes them where the room holds them.
@@ -197,7 +212,7 @@ pub fn lines(tape: &[u8], answers: &mut [u8]) -> usize
     ensures { λ r. ⌜ Answered (now (tape .entry)) (now (answers .entry)) (now (answers .exit)) r ⌝ }
 {
     if tape.len() <= 65536 {
-        return records(tape, answers);
+        return records(tape, answers, 0).end;
     }
     letter_line(answers, 0, b'L')
 }

@@ -10,12 +10,14 @@ use crate::record::Read;
 use crate::record::Record;
 use float::AvailableSpace;
 use float::Bottom;
+use float::BoxNumber;
 use float::CalculatorAnswer;
 use float::Done;
 use float::FloatContext;
 use float::FloatDirection;
 use float::FloatIntrinsicWidthCalculator;
 use float::Head;
+use float::PlacedFloatedBox;
 use float::Refusal;
 use float::Segment;
 use float::ask;
@@ -351,6 +353,30 @@ pub struct Rest {
     pub head: Head,
     pub calculator: Calculator,
     pub end: usize,
+}
+
+// What stands in the places of a run's arrays before any is written. A fresh head counts none, so no record sees it.
+pub fn no_band() -> Segment {
+    Segment {
+        start: 0.0,
+        end: 0.0,
+        left: 0.0,
+        right: 0.0,
+        left_float: false,
+        right_float: false,
+        left_box: BoxNumber::None,
+        right_box: BoxNumber::None,
+    }
+}
+
+pub fn no_box() -> PlacedFloatedBox {
+    PlacedFloatedBox {
+        width: 0.0,
+        height: 0.0,
+        x_inset: 0.0,
+        y: 0.0,
+        side: FloatDirection::Left,
+    }
 }
 
 pub fn fresh_head() -> Head

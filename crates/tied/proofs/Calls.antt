@@ -7,13 +7,17 @@ use mathlib.Core.Path.{_≡_, refl, sym, ap, _∙_}
 use mathlib.Core.Option.{some}
 use mathlib.Core.List.{List, [], _∷_, _++_, append-assoc, append-nil, append-cancel-left, head-eq-of-cons-eq, flatMap, flatten}
 use lib.Ieee.{Float}
+use lib.IntN.{ℤ, pos, negsuc, negℤ}
 use lib.ListN.{length, take, drop, getD, getElem?, length-append}
-use lib.Seq.{take-add}
+use lib.Seq.{take-add, take-all}
+use Rattle.float.specs.declared.BoxNumber.{BoxNumber}
 use Rattle.float.specs.declared.CalculatorAnswer.{CalculatorAnswer}
 use Rattle.float.specs.declared.Done.{Done}
 use Rattle.float.specs.declared.FloatContext.{FloatContext}
+use Rattle.float.specs.declared.Innermost.{Innermost}
 use Rattle.float.specs.declared.PlaceAnswer.{PlaceAnswer}
 use Rattle.float.specs.declared.Refusal.{Refusal}
+use Rattle.float.specs.Refuse.{numberOf}
 use Rattle.float.specs.Page.{Page, pageOf}
 use Rattle.float.specs.Place.{Call, cleaned, placeOf, widthOf}
 use Rattle.float.specs.Calculator.{addOf}
@@ -26,8 +30,8 @@ use Rattle.tape.specs.declared.step.State.{State}
 use Rattle.tape.specs.Bytes.{float, decimal, row}
 use Rattle.tape.specs.Record.{bodyLen, placeRecord, readOf}
 use Rattle.tape.specs.Lines.{doneLine, placeLine, refusedLine}
-use Rattle.tape.specs.Tape.{freshState, started as startedBy, addTo, stepOf, run as runTape, linesOf}
-use Rattle.tied.specs.Acts.{callsIn, records, recordsOf, broken, brokenLine, stateAfter, linesFrom, RecordAt, lineAt, PLine, RLine, stateAt, runAt, callsNext}
+use Rattle.tape.specs.Tape.{freshState, started as startedBy, addTo, stepOf, run as runTape, linesOf, runs, pageAfter, returnedBox}
+use Rattle.tied.specs.Acts.{callsIn, records, recordsOf, broken, brokenLine, stateAfter, linesFrom, RecordAt, lineAt, PLine, RLine, stateAt, runAt, callsNext, wholeRun}
 
 -- ---- the page
 
@@ -63,6 +67,23 @@ page-after qs = state-page freshState started qs refl
 -- after the first n records of a tape the page is that of the promises after their calls
 pub tape-page : (t : List ℕ) (n : ℕ) → stateAt t n .page ≡ runAt t n .struct
 tape-page t n = page-after (take n (recordsOf t))
+
+-- what the run leaves is what its records leave
+runs-state : (f : ℕ) (t : List ℕ) (s : State) → runs f t s ≡ stateAfter s (records f t)
+unfolding runs records
+runs-state zero t s = refl
+runs-state (suc f) [] s = refl
+runs-state (suc f) (k ∷ b) s = go (readOf k b) (λ q. runs-state f (drop (bodyLen k) b) (stepOf s q .after))
+  where
+    go : (x : Read) → ((q : Record) → runs f (drop (bodyLen k) b) (stepOf s q .after) ≡ stateAfter (stepOf s q .after) (records f (drop (bodyLen k) b)))
+        → elim x [ Read.Whole q ↦ runs f (drop (bodyLen k) b) (stepOf s q .after) | Read.Broken ↦ s ] ≡ stateAfter s (elim x [ Read.Whole q ↦ q ∷ records f (drop (bodyLen k) b) | Read.Broken ↦ [] ])
+    go (Read.Whole q) h = h q
+    go Read.Broken h = refl
+
+-- the page after a tape, of which C asks, is that of the promises after all its calls
+pub page-after-tape : (t : List ℕ) → length t ≤ 65536 → pageAfter t ≡ wholeRun t .struct
+unfolding pageAfter
+page-after-tape t h = rw (le-leb (length t) 65536 h, pageAfter) (ap (λ (s : State). s .page) (runs-state (length t) t freshState) ∙ page-after (recordsOf t) ∙ ap (λ (qs : List Record). after (flatMap callsIn qs) .struct) (sym (take-all (length (recordsOf t)) (recordsOf t) (omega arith))))
 
 -- ---- the lines
 run-lines : (f i : ℕ) (t : List ℕ) (s : State) → runTape f i t s ≡ flatten (linesFrom s (records f t)) ++ broken f i t
@@ -209,3 +230,26 @@ refused-at s (q ∷ qs) (suc n) h = refused-at (stepOf s q .after) qs n h
 -- so it is with every R of a tape
 pub tape-refused : (t : List ℕ) (n : ℕ) → RLine (lineAt t n) → stateAt t (suc n) ≡ stateAt t n
 tape-refused t n = refused-at freshState (recordsOf t) n
+
+-- ---- numbers returned to C
+
+-- one more than a number from zero up, and 0 below it
+abbrev above : ℤ → ℕ
+above (pos n) = suc n
+above (negsuc n) = 0
+
+refusal-below : (n : Refusal) → above (negℤ (pos (numberOf n))) ≡ 0
+refusal-below Refusal.UnknownCode = refl
+refusal-below Refusal.NotFinite = refl
+refusal-below Refusal.OutOfLimits = refl
+refusal-below Refusal.WidthFixed = refl
+refusal-below Refusal.BoxesFull = refl
+refusal-below Refusal.TooFar = refl
+refusal-below Refusal.BandsFull = refl
+refusal-below Refusal.NoCalculator = refl
+refusal-below Refusal.NoRoom = refl
+
+pub returned-number : (a : Innermost) (k : ℕ) → returnedBox a ≡ pos k → a ≡ Innermost.Answer (BoxNumber.At k)
+returned-number (Innermost.Answer (BoxNumber.At j)) k e = ap (λ (n : ℕ). Innermost.Answer (BoxNumber.At n)) (let z = ap above e in omega arith)
+returned-number (Innermost.Answer BoxNumber.None) k e = let z = ap above e in absurd (omega arith)
+returned-number (Innermost.Refused n) k e = let z = ap above e in absurd (omega (arith, refusal-below n))

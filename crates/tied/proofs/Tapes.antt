@@ -1,20 +1,29 @@
 -- The promises of every tape, whatever its bytes: each cites the promise of the calls that its first n records make. To read them takes the definitions and no other proof.
-use Prim.Native.Nat.{ℕ, suc, _+_, _≤_}
+use Prim.Native.Nat.{ℕ, suc, _+_, _≤_, _<_}
 use mathlib.Core.Bool.{true, not}
-use mathlib.Core.Path.{_≡_}
+use mathlib.Core.Path.{_≡_, sym, ap, _∙_}
 use mathlib.Core.List.{List, map}
 use lib.Dec.{T}
 use lib.Ieee.{Float, inf, binary32, add, sub, le}
-use lib.ListN.{length}
+use lib.IntN.{pos}
+use lib.ListN.{length, getD}
+use Rattle.float.specs.declared.BandNumber.{BandNumber}
+use Rattle.float.specs.declared.BoxNumber.{BoxNumber}
+use Rattle.float.specs.declared.FloatContext.{FloatContext}
+use Rattle.float.specs.declared.FloatDirection.{FloatDirection}
 use Rattle.float.specs.declared.PlaceAnswer.{PlaceAnswer}
-use Rattle.float.specs.Bands.{sameSide}
+use Rattle.float.specs.Refuse.{sideOf}
+use Rattle.float.specs.Bands.{sameSide, hasFloat, boxOn, lead, none}
+use Rattle.float.specs.Page.{pageOf}
 use Rattle.float.specs.Place.{Call, placeOf}
-use Rattle.demands.specs.Runs.{Each, Pairs, boxIn, run, pageIn, bandsIn, Stays, Handed, Whole64, NoSmaller, EdgeToEdge, sideIn, containingLead, containingTrail, sized, shareHeight, overlap, Page64}
-use Rattle.demands.proofs.Promises.{bands-lie, boxes-kept, no-inset-smaller, two-bands-more, steps-at-most, rule-1, rule-5, page-in-64ths, rule-7, no-overlap}
+use Rattle.float.specs.Slot.{innermost}
 use Rattle.tape.specs.Record.{placeRecord}
-use Rattle.tied.specs.Acts.{RecordAt, callsAt, runAt, callsNext}
+use Rattle.tape.specs.Tape.{returnedBox, innermostAfter}
+use Rattle.demands.specs.Runs.{Each, Pairs, boxIn, run, pageIn, bandsIn, Stays, Handed, Whole64, NoSmaller, EdgeToEdge, sideIn, containingLead, containingTrail, sized, shareHeight, overlap, present, Names, farInset, Holds, StandsAt, F32, Page64}
+use Rattle.demands.proofs.Promises.{bands-lie, boxes-kept, no-inset-smaller, two-bands-more, steps-at-most, rule-1, rule-5, number-with-mark, number-names, innermost-told, page-in-64ths, rule-7, no-overlap, none-further-in}
+use Rattle.tied.specs.Acts.{recordsOf, RecordAt, callsAt, runAt, wholeRun, callsNext}
 use Rattle.tied.proofs.Handed.{tape-f32, next-f32}
-use Rattle.tied.proofs.Calls.{run-next, run-one}
+use Rattle.tied.proofs.Calls.{run-next, run-one, page-after-tape, returned-number}
 
 -- ---- any numbers: after the first n records of the tape t
 
@@ -47,6 +56,18 @@ tape-rule-5 t n = rule-5 (callsAt t n) (tape-f32 t n)
 pub tape-rule-1 : (t : List ℕ) (n : ℕ) → Each (λ a. T (le (containingLead a) (a .inset))) (runAt t n .accepted)
 tape-rule-1 t n = rule-1 (callsAt t n) (tape-f32 t n)
 
+-- on each side a band names a box exactly where its mark is set: one of that side, and the band's inset is its inset plus width
+pub tape-number-with-mark : (t : List ℕ) (n : ℕ) → Each (λ b. (s : FloatDirection) → present (boxOn s b) ≡ hasFloat s b) (bandsIn (runAt t n))
+tape-number-with-mark t n = number-with-mark (callsAt t n)
+
+pub tape-number-names : (t : List ℕ) (n : ℕ) → Each (λ b. (s : FloatDirection) (k : ℕ) → boxOn s b ≡ BoxNumber.At k → Names (runAt t n .accepted) s b k) (bandsIn (runAt t n))
+tape-number-names t n = number-names (callsAt t n)
+
+-- what C is told of the page after the tape: a number from 0 up is that of such a box
+pub tape-innermost : (t : List ℕ) → length t ≤ 65536 → (i s k : ℕ) → innermostAfter t i s ≡ pos k → Names (wholeRun t .accepted) (sideOf s) (getD (bandsIn (wholeRun t)) i none) k
+unfolding innermostAfter
+tape-innermost t h i s k e = innermost-told (callsAt t (length (recordsOf t))) i s k (returned-number _ k (ap (λ (p : FloatContext). returnedBox (innermost (pageOf p) (BandNumber.At i) s)) (sym (page-after-tape t h)) ∙ e))
+
 -- ---- if every number that they handed in was whole 64ths
 
 -- all numbers that the page then holds are whole 64ths
@@ -61,3 +82,8 @@ tape-rule-7 t n = rule-7 (callsAt t n) (tape-f32 t n)
 -- no two accepted boxes of positive size overlap
 pub tape-no-overlap : (t : List ℕ) (n : ℕ) → Handed Whole64 (callsAt t n) → Pairs (λ a b. T (sized a) → T (sized b) → T (not (overlap a b))) (runAt t n .accepted)
 tape-no-overlap t n = no-overlap (callsAt t n) (tape-f32 t n)
+
+-- at no height of a band does a box of that side reach further in than the band's inset: the box that the band names stands innermost
+pub tape-none-further-in : (t : List ℕ) (n : ℕ) → Handed Whole64 (callsAt t n) → (i : ℕ) → i < length (bandsIn (runAt t n)) → (h : Float) → F32 h → Holds (getD (bandsIn (runAt t n)) i none) h
+    → Each (λ a. StandsAt a h → T (le (farInset a) (lead (sideIn a) (getD (bandsIn (runAt t n)) i none)))) (runAt t n .accepted)
+tape-none-further-in t n = none-further-in (callsAt t n) (tape-f32 t n)

@@ -78,6 +78,10 @@ callsAt t n = flatMap callsIn (take n (recordsOf t))
 abbrev pub runAt : List ℕ → ℕ → Run
 runAt t n = after (callsAt t n)
 
+-- after all of them
+abbrev pub wholeRun : List ℕ → Run
+wholeRun t = runAt t (length (recordsOf t))
+
 -- the calls of the k records after the first n
 abbrev pub callsNext : List ℕ → ℕ → ℕ → List Act
 callsNext t n k = flatMap callsIn (take k (drop n (recordsOf t)))

@@ -20,8 +20,11 @@ mod run {
     const SPELLS: usize = 20;
 
     /// Both sides do the same job on all tapes of the row, each in a room to spare, in one that is just enough, and in one a byte too
-    /// short; with no room they give the same number.
+    /// short; with no room they give the same number. Rows whose sides differ in what they do are left out.
     fn agree(row: &Row) {
+        if !row.same {
+            return;
+        }
         for Run { tape, room } in row.with.iter().chain(&row.without) {
             if *room == 0 {
                 let [by_archive, by_crate] = row.sides.map(|run| run(tape, &mut []));
@@ -145,6 +148,8 @@ mod run {
         }
         let deepest = answers::sample().iter().map(|(tape, _)| archive::panel_stack(tape)).max();
         println!("| deepest stack over the stored tapes | {} |", grouped(deepest.unwrap_or(0)));
+        let asked = answers::sample().iter().map(|(tape, _)| archive::innermost_stack(tape, 1, 0)).max();
+        println!("| deepest stack of `bulameki_innermost` over them | {} |", grouped(asked.unwrap_or(0)));
     }
 
     fn text(rows: &[Row]) {

@@ -88,7 +88,7 @@ mod run {
     }
 
     /// The archive's page: bands, boxes, and the fields beside them.
-    const PAGE: usize = 96 * 20 + 64 * 20 + 80;
+    const PAGE: usize = 96 * 24 + 64 * 20 + 80;
 
     fn pages() {
         println!("| a page of | archive, bytes | crate, bytes |");

@@ -21,16 +21,20 @@ fn main() {
 
 #[cfg(all(has_taffy, has_panel))]
 mod tried {
+    use host::account::Account;
+    use host::driver::other_box;
     use host::random::Random;
     use host::tape::{bytes, Record};
     use host::{answers, archive, boundaries, judge, tapes};
 
-    /// A tape, its lines by the crate, and the rooms to run it in.
+    /// A tape, its lines by the crate, the rooms to run it in, and a band whose boxes are asked.
     pub struct Tried {
         name: &'static str,
         tape: Vec<u8>,
         lines: Vec<u8>,
         rooms: Vec<usize>,
+        account: Account,
+        band: usize,
     }
 
     /// Seconds of processor time after which a changed archive is taken to run for ever; whole, all tapes take some two, emulated.
@@ -46,7 +50,9 @@ mod tried {
     fn tried(name: &'static str, tape: Vec<u8>, rooms: &[usize]) -> Tried {
         let lines = judge::lines(&tape);
         let rooms = [&[archive::room(&tape), lines.len() + 9, lines.len().saturating_sub(1)], rooms].concat();
-        Tried { name, tape, lines, rooms }
+        let account = judge::account(&tape);
+        let band = tape.len() % (account.bands().len() + 1);
+        Tried { name, tape, lines, rooms, account, band }
     }
 
     /// The stored tapes, those at the constants, faults, and some random ones of every kind.
@@ -74,10 +80,11 @@ mod tried {
 
     /// What a tape is that the archive answers otherwise.
     pub fn first_difference(tapes: &[Tried]) -> Option<usize> {
-        let run = archive::panel().unwrap();
+        let (run, innermost) = (archive::panel().unwrap(), archive::innermost().unwrap());
         tapes.iter().position(|tried| {
             let differs = |room: &usize| archive::difference(run, &tried.tape, &tried.lines, *room).is_some();
-            tried.rooms.iter().any(differs)
+            let other_box = || other_box(innermost, &tried.tape, &tried.account, [tried.band]);
+            tried.rooms.iter().any(differs) || other_box().is_some()
         })
     }
 

@@ -13,10 +13,10 @@ enum-told-2 : tie.Need-enum-told-2
 enum-told-2 c = search needs
 
 returns : tie.Need-returns
-returns c = sym (ap (λ (s : FloatDirection). marked s (c .before .before .args .v) (c .before .before .args .b)) (c .enum-told .given .1))
+returns c = sym (ap (λ (s : FloatDirection). marked s (c .before .before .args .v) (c .before .before .args .k) (c .before .before .args .b)) (c .enum-told .given .1))
 
 returns-2 : tie.Need-returns-2
-returns-2 c = sym (ap (λ (s : FloatDirection). marked s (c .before .before .args .v) (c .before .before .args .b)) (c .enum-told2 .given .1))
+returns-2 c = sym (ap (λ (s : FloatDirection). marked s (c .before .before .args .v) (c .before .before .args .k) (c .before .before .args .b)) (c .enum-told2 .given .1))
 
 pub marked-spec : {M : Type 1} → statement M
 marked-spec = tie.close (tie.spec enum-told enum-told-2 returns returns-2)

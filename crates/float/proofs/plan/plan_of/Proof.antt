@@ -8,7 +8,7 @@ below-plan-requires : tie.Need-below-plan-requires
 below-plan-requires c κs = search needs
 
 returns : tie.Need-returns
-returns c = from-below _ _ _ _ _ _ _ _ (c .before .if1 .taken) (c .below-plan .ensures)
+returns c = from-below _ _ _ _ _ _ _ _ _ (c .before .if1 .taken) (c .below-plan .ensures)
 
 starts-inside-requires : tie.Need-starts-inside-requires
 starts-inside-requires c κs = search needs
@@ -17,7 +17,7 @@ past-plan-requires : tie.Need-past-plan-requires
 past-plan-requires c κs = search needs
 
 returns-2 : tie.Need-returns-2
-returns-2 c = from-past _ _ _ _ _ _ _ _ _ (c .before .before .before .before .if1 .left) (c .before .if2 .taken) (c .before .before .before .starts-inside .ensures) (c .past-plan .ensures)
+returns-2 c = from-past _ _ _ _ _ _ _ _ _ _ (c .before .before .before .before .if1 .left) (c .before .if2 .taken) (c .before .before .before .starts-inside .ensures) (c .past-plan .ensures)
 
 moved-requires : tie.Need-moved-requires
 moved-requires c κs = search needs
@@ -32,7 +32,7 @@ end-plan-requires : tie.Need-end-plan-requires
 end-plan-requires c κs = search needs
 
 returns-3 : tie.Need-returns-3
-returns-3 c = from-end _ _ _ _ _ _ _ _ _ _ _ _ (c .before .before .before .before .before .before .before .before .before .if1 .left) (c .before .before .before .before .before .before .if2 .left) (c .before .before .before .before .before .before .before .before .starts-inside .ensures) (c .before .before .before .before .before .moved .ensures .0) (c .before .before .before .before .part .ensures) (c .before .inside .ensures) (c .end-plan .ensures)
+returns-3 c = from-end _ _ _ _ _ _ _ _ _ _ _ _ _ (c .before .before .before .before .before .before .before .before .before .if1 .left) (c .before .before .before .before .before .before .if2 .left) (c .before .before .before .before .before .before .before .before .starts-inside .ensures) (c .before .before .before .before .before .moved .ensures .0) (c .before .before .before .before .part .ensures) (c .before .inside .ensures) (c .end-plan .ensures)
 
 pub plan-of-spec : {M : Type 1} → statement M
 plan-of-spec =

@@ -11,7 +11,7 @@ same-length : tie.Need-same-length
 same-length c = search needs
 
 returns : tie.Need-returns
-returns c = search needs
+returns c = c .before .before .records .ensures .answered
 
 letter-line-requires : tie.Need-letter-line-requires
 letter-line-requires c κs = search needs

@@ -1,11 +1,13 @@
 -- `tape::run::records` meets its contract. The outer invariant: the lines so far were put at the front of the answers, and the rest of the tape makes the rest, in the state of the page's three parts.
 use Prim.Native.Nat.{ℕ, _+_, _-_, _≤_, _<_}
 use denote.Ref.{now}
-use mathlib.Core.Path.{_≡_, refl, sym, ap, _∙_}
+use mathlib.Core.Path.{_≡_, sym, ap, _∙_}
 use mathlib.Core.Logic.{⊎-elim}
 use native.Mathlib.Omega.{arith}
 use borrow.Author.Tests.{not-true, not-false}
 use lib.ListN.{length, take, drop, getD, length-take, length-drop, length-replicate, length-set}
+use Rattle.float.specs.declared.PlacedFloatedBox.{PlacedFloatedBox}
+use Rattle.float.specs.declared.Segment.{Segment}
 use Rattle.float.specs.Bands.{none}
 use Rattle.float.specs.Head.{pageWith}
 use Rattle.float.specs.Hold.{Enters}
@@ -16,41 +18,41 @@ use Rattle.float.proofs.Scan.{Scans, scan-starts, scan-goes, scan-finds, scan-e
 use Rattle.tape.specs.Put.{Places, Turned, stateOf}
 use Rattle.tape.specs.Record.{bodyLen}
 use Rattle.tape.proofs.Going.{Going, going-fresh, going-more, going-done}
-use Rattle.tape.proofs.Held.{asked, of-parts, place-left, bands-long, boxes-long, again-low, again-scans}
+use Rattle.tape.proofs.Held.{asked, of-parts, place-left, again-low, again-scans}
 use Rattle.tape.proofs.Running.{body-short, turned-whole}
 use borrow.Author.Needs.{needs}
 use Rattle.tape.proofs.run.records.Statement.{statement}
 use Rattle.tape.proofs.run.records.Tie as tie
 
 abbrev Inv-loop2 : tie.InvT-loop2
-Inv-loop2 tape answers bands boxes head calculator at to kind read q i₀ i = Scans bands (q .n) (q .from) (q .above) i
+Inv-loop2 tape answers pick bands boxes head calculator at to kind read q i₀ i = Scans bands (q .n) (q .from) (q .above) i
 
 abbrev μ-loop2 : tie.MeasureT-loop2
-μ-loop2 tape answers bands boxes head calculator at to kind read q i₀ i = q .n - i
+μ-loop2 tape answers pick bands boxes head calculator at to kind read q i₀ i = q .n - i
 
 abbrev Inv-loop3 : tie.InvT-loop3
-Inv-loop3 tape answers bands boxes head calculator at to kind read q i k₀ k = (k ≤ q .n) × (q .n ≤ i → Scans bands (q .n) 0 (q .y) k)
+Inv-loop3 tape answers pick bands boxes head calculator at to kind read q i k₀ k = (k ≤ q .n) × (q .n ≤ i → Scans bands (q .n) 0 (q .y) k)
 
 abbrev μ-loop3 : tie.MeasureT-loop3
-μ-loop3 tape answers bands boxes head calculator at to kind read q i k₀ k = q .n - k
+μ-loop3 tape answers pick bands boxes head calculator at to kind read q i k₀ k = q .n - k
 
 abbrev Inv-loop4 : tie.InvT-loop4
-Inv-loop4 tape answers bands boxes head calculator at to kind adm a n spot bottom stop e₀ e = Walking (take n bands) a spot stop e
+Inv-loop4 tape answers pick bands boxes head calculator at to kind adm a n spot bottom stop e₀ e = Walking (take n bands) a spot stop e
 
 abbrev μ-loop4 : tie.MeasureT-loop4
-μ-loop4 tape answers bands boxes head calculator at to kind adm a n spot bottom stop e₀ e = e
+μ-loop4 tape answers pick bands boxes head calculator at to kind adm a n spot bottom stop e₀ e = e
 
 abbrev Inv-loop5 : tie.InvT-loop5
-Inv-loop5 tape answers bands₀ boxes head calculator at to kind a n bottom stop e entry plan j₀ bands j = Writing a plan bands₀ bands j
+Inv-loop5 tape answers pick bands₀ boxes head calculator at to kind a n bottom stop e entry plan j₀ bands j = Writing a plan bands₀ bands j
 
 abbrev μ-loop5 : tie.MeasureT-loop5
-μ-loop5 tape answers bands₀ boxes head calculator at to kind a n bottom stop e entry plan j₀ bands j = j
+μ-loop5 tape answers pick bands₀ boxes head calculator at to kind a n bottom stop e entry plan j₀ bands j = j
 
 abbrev Inv-loop : tie.InvT-loop
-Inv-loop tape answers₀ bands₀ boxes₀ head₀ calculator₀ at₀ to₀ answers bands boxes head calculator at to = Going tape answers₀ answers (stateOf (pageWith head bands boxes) calculator) at to × (length bands ≡ 96) × (length boxes ≡ 64)
+Inv-loop tape answers₀ pick bands₀ boxes₀ head₀ calculator₀ at₀ to₀ answers bands boxes head calculator at to = Going tape answers₀ answers (stateOf (pageWith head bands boxes) calculator) at to × (length bands ≡ 96) × (length boxes ≡ 64)
 
 abbrev μ-loop : tie.MeasureT-loop
-μ-loop tape answers₀ bands₀ boxes₀ head₀ calculator₀ at₀ to₀ answers bands boxes head calculator at to = length tape - at
+μ-loop tape answers₀ pick bands₀ boxes₀ head₀ calculator₀ at₀ to₀ answers bands boxes head calculator at to = length tape - at
 
 -- the bands that are looked through are some of the array
 few : (c : tie.After-asking Inv-loop2 μ-loop2 Inv-loop3 μ-loop3 Inv-loop4 μ-loop4 Inv-loop5 μ-loop5 Inv-loop μ-loop) → c .asking .result .quest .n ≤ length (c .before .before .before .before .before .loop .bands)
@@ -66,7 +68,7 @@ found c =
     }
 
 -- a question was answered
-question : (c : tie.After-found-line Inv-loop2 μ-loop2 Inv-loop3 μ-loop3 Inv-loop4 μ-loop4 Inv-loop5 μ-loop5 Inv-loop μ-loop) → (m : ℕ) → m ≡ bodyLen (getD (now (c .before .before .before .before .before .before .before .before .before .before .before .before .before .before .before .before .before .before .before .before .before .before .before .before .before .before .before .args .tape)) (c .before .before .before .before .before .before .before .before .before .before .before .before .before .before .before .before .before .before .before .before .loop .at) 0) → Turned (stateOf (pageWith (c .before .before .before .before .before .before .before .before .before .before .before .before .before .before .before .before .before .before .before .before .loop .head) (c .before .before .before .before .before .before .before .before .before .before .before .before .before .before .before .before .before .before .before .before .loop .bands) (c .before .before .before .before .before .before .before .before .before .before .before .before .before .before .before .before .before .before .before .before .loop .boxes)) (c .before .before .before .before .before .before .before .before .before .before .before .before .before .before .before .before .before .before .before .before .loop .calculator)) (getD (now (c .before .before .before .before .before .before .before .before .before .before .before .before .before .before .before .before .before .before .before .before .before .before .before .before .before .before .before .args .tape)) (c .before .before .before .before .before .before .before .before .before .before .before .before .before .before .before .before .before .before .before .before .loop .at) 0) (take (length (now (c .before .before .before .before .before .before .before .before .before .before .before .before .before .before .before .before .before .before .before .before .before .before .before .before .before .before .before .args .tape)) - (c .before .before .before .before .before .before .before .before .before .before .before .before .before .before .before .before .before .before .before .before .loop .at + 1)) (drop (c .before .before .before .before .before .before .before .before .before .before .before .before .before .before .before .before .before .before .before .before .loop .at + 1) (now (c .before .before .before .before .before .before .before .before .before .before .before .before .before .before .before .before .before .before .before .before .before .before .before .before .before .before .before .args .tape)))) (c .before .before .before .before .before .before .before .before .before .before .before .before .before .before .before .before .before .before .before .before .loop .at) (stateOf (pageWith (c .before .before .before .before .before .before .before .before .before .before .before .before .before .before .before .before .before .before .before .before .loop .head) (c .before .before .before .before .before .before .before .before .before .before .before .before .before .before .before .before .before .before .before .before .loop .bands) (c .before .before .before .before .before .before .before .before .before .before .before .before .before .before .before .before .before .before .before .before .loop .boxes)) (c .before .before .before .before .before .before .before .before .before .before .before .before .before .before .before .before .before .before .before .before .loop .calculator)) (c .before .before .before .before .before .before .before .before .before .before .before .before .before .before .before .before .before .before .before .before .loop .at + 1 + m) (c .before .before .before .before .before .before .before .before .before .before .before .before .before .before .before .before .before .before .before .before .loop .answers) (c .before .before .before .before .before .before .before .before .before .before .before .before .before .before .before .before .before .before .before .before .loop .to) (c .found-line .last .1 .1 .1 .1 .1 .1 .1 .0) (c .found-line .result)
+question : (c : tie.After-found-line Inv-loop2 μ-loop2 Inv-loop3 μ-loop3 Inv-loop4 μ-loop4 Inv-loop5 μ-loop5 Inv-loop μ-loop) → (m : ℕ) → m ≡ bodyLen (getD (now (c .before .before .before .before .before .before .before .before .before .before .before .before .before .before .before .before .before .before .before .before .before .before .before .before .before .before .args .tape)) (c .before .before .before .before .before .before .before .before .before .before .before .before .before .before .before .before .before .before .before .before .loop .at) 0) → Turned (stateOf (pageWith (c .before .before .before .before .before .before .before .before .before .before .before .before .before .before .before .before .before .before .before .before .loop .head) (c .before .before .before .before .before .before .before .before .before .before .before .before .before .before .before .before .before .before .before .before .loop .bands) (c .before .before .before .before .before .before .before .before .before .before .before .before .before .before .before .before .before .before .before .before .loop .boxes)) (c .before .before .before .before .before .before .before .before .before .before .before .before .before .before .before .before .before .before .before .before .loop .calculator)) (getD (now (c .before .before .before .before .before .before .before .before .before .before .before .before .before .before .before .before .before .before .before .before .before .before .before .before .before .before .args .tape)) (c .before .before .before .before .before .before .before .before .before .before .before .before .before .before .before .before .before .before .before .before .loop .at) 0) (take (length (now (c .before .before .before .before .before .before .before .before .before .before .before .before .before .before .before .before .before .before .before .before .before .before .before .before .before .before .args .tape)) - (c .before .before .before .before .before .before .before .before .before .before .before .before .before .before .before .before .before .before .before .before .loop .at + 1)) (drop (c .before .before .before .before .before .before .before .before .before .before .before .before .before .before .before .before .before .before .before .before .loop .at + 1) (now (c .before .before .before .before .before .before .before .before .before .before .before .before .before .before .before .before .before .before .before .before .before .before .before .before .before .before .args .tape)))) (c .before .before .before .before .before .before .before .before .before .before .before .before .before .before .before .before .before .before .before .before .loop .at) (stateOf (pageWith (c .before .before .before .before .before .before .before .before .before .before .before .before .before .before .before .before .before .before .before .before .loop .head) (c .before .before .before .before .before .before .before .before .before .before .before .before .before .before .before .before .before .before .before .before .loop .bands) (c .before .before .before .before .before .before .before .before .before .before .before .before .before .before .before .before .before .before .before .before .loop .boxes)) (c .before .before .before .before .before .before .before .before .before .before .before .before .before .before .before .before .before .before .before .before .loop .calculator)) (c .before .before .before .before .before .before .before .before .before .before .before .before .before .before .before .before .before .before .before .before .loop .at + 1 + m) (c .before .before .before .before .before .before .before .before .before .before .before .before .before .before .before .before .before .before .before .before .loop .answers) (c .before .before .before .before .before .before .before .before .before .before .before .before .before .before .before .before .before .before .before .before .loop .to) (c .found-line .last .1 .1 .1 .1 .1 .1 .1 .0) (c .found-line .result)
 question c = λ m e.
     let l = c .before .before .before .before .before .before .before .before .before .before .before .before .before .before .before .before .before .before .before .before .loop in
     let w = asked _ (sym (c .before .before .before .before .before .before .before .before .before .before .before .before .before .before .before .asking .ensures .0) ∙ c .before .before .before .before .before .before .before .before .before .before .before .before .before .before .if1 .taken) in
@@ -111,30 +113,31 @@ done c =
     (c .if8 .came)
 
 -- a placement was made, or refused
-placement : (c : tie.After-place-line Inv-loop2 μ-loop2 Inv-loop3 μ-loop3 Inv-loop4 μ-loop4 Inv-loop5 μ-loop5 Inv-loop μ-loop) → (m : ℕ) → m ≡ bodyLen (getD (now (c .before .before .before .before .before .before .before .before .before .before .before .before .before .before .before .before .before .before .before .before .before .before .before .before .before .before .before .before .before .before .before .before .before .args .tape)) (c .before .before .before .before .before .before .before .before .before .before .before .before .before .before .before .before .before .before .before .before .before .before .before .before .before .before .loop .at) 0) → Turned (stateOf (pageWith (c .before .before .before .before .before .before .before .before .before .before .before .before .before .before .before .before .before .before .before .before .before .before .before .before .before .before .loop .head) (c .before .before .before .before .before .before .before .before .before .before .before .before .before .before .before .before .before .before .before .before .before .before .before .before .before .before .loop .bands) (c .before .before .before .before .before .before .before .before .before .before .before .before .before .before .before .before .before .before .before .before .before .before .before .before .before .before .loop .boxes)) (c .before .before .before .before .before .before .before .before .before .before .before .before .before .before .before .before .before .before .before .before .before .before .before .before .before .before .loop .calculator)) (getD (now (c .before .before .before .before .before .before .before .before .before .before .before .before .before .before .before .before .before .before .before .before .before .before .before .before .before .before .before .before .before .before .before .before .before .args .tape)) (c .before .before .before .before .before .before .before .before .before .before .before .before .before .before .before .before .before .before .before .before .before .before .before .before .before .before .loop .at) 0) (take (length (now (c .before .before .before .before .before .before .before .before .before .before .before .before .before .before .before .before .before .before .before .before .before .before .before .before .before .before .before .before .before .before .before .before .before .args .tape)) - (c .before .before .before .before .before .before .before .before .before .before .before .before .before .before .before .before .before .before .before .before .before .before .before .before .before .before .loop .at + 1)) (drop (c .before .before .before .before .before .before .before .before .before .before .before .before .before .before .before .before .before .before .before .before .before .before .before .before .before .before .loop .at + 1) (now (c .before .before .before .before .before .before .before .before .before .before .before .before .before .before .before .before .before .before .before .before .before .before .before .before .before .before .before .before .before .before .before .before .before .args .tape)))) (c .before .before .before .before .before .before .before .before .before .before .before .before .before .before .before .before .before .before .before .before .before .before .before .before .before .before .loop .at) (stateOf (pageWith (c .before .before .if8 .head) (c .before .before .if8 .bands) (c .before .before .if8 .boxes)) (c .before .before .before .before .before .before .before .before .before .before .before .before .before .before .before .before .before .before .before .before .before .before .before .before .before .before .loop .calculator)) (c .before .before .before .before .before .before .before .before .before .before .before .before .before .before .before .before .before .before .before .before .before .before .before .before .before .before .loop .at + 1 + m) (c .before .before .before .before .before .before .before .before .before .before .before .before .before .before .before .before .before .before .before .before .before .before .before .before .before .before .loop .answers) (c .before .before .before .before .before .before .before .before .before .before .before .before .before .before .before .before .before .before .before .before .before .before .before .before .before .before .loop .to) (c .place-line .last .0) (c .place-line .result)
+placement : (c : tie.After-place-line Inv-loop2 μ-loop2 Inv-loop3 μ-loop3 Inv-loop4 μ-loop4 Inv-loop5 μ-loop5 Inv-loop μ-loop) → (m : ℕ) → m ≡ bodyLen (getD (now (c .before .before .before .before .before .before .before .before .before .before .before .before .before .before .before .before .before .before .before .before .before .before .before .before .before .before .before .before .before .before .before .before .args .tape)) (c .before .before .before .before .before .before .before .before .before .before .before .before .before .before .before .before .before .before .before .before .before .before .before .before .before .before .loop .at) 0) → Turned (stateOf (pageWith (c .before .before .before .before .before .before .before .before .before .before .before .before .before .before .before .before .before .before .before .before .before .before .before .before .before .before .loop .head) (c .before .before .before .before .before .before .before .before .before .before .before .before .before .before .before .before .before .before .before .before .before .before .before .before .before .before .loop .bands) (c .before .before .before .before .before .before .before .before .before .before .before .before .before .before .before .before .before .before .before .before .before .before .before .before .before .before .loop .boxes)) (c .before .before .before .before .before .before .before .before .before .before .before .before .before .before .before .before .before .before .before .before .before .before .before .before .before .before .loop .calculator)) (getD (now (c .before .before .before .before .before .before .before .before .before .before .before .before .before .before .before .before .before .before .before .before .before .before .before .before .before .before .before .before .before .before .before .before .args .tape)) (c .before .before .before .before .before .before .before .before .before .before .before .before .before .before .before .before .before .before .before .before .before .before .before .before .before .before .loop .at) 0) (take (length (now (c .before .before .before .before .before .before .before .before .before .before .before .before .before .before .before .before .before .before .before .before .before .before .before .before .before .before .before .before .before .before .before .before .args .tape)) - (c .before .before .before .before .before .before .before .before .before .before .before .before .before .before .before .before .before .before .before .before .before .before .before .before .before .before .loop .at + 1)) (drop (c .before .before .before .before .before .before .before .before .before .before .before .before .before .before .before .before .before .before .before .before .before .before .before .before .before .before .loop .at + 1) (now (c .before .before .before .before .before .before .before .before .before .before .before .before .before .before .before .before .before .before .before .before .before .before .before .before .before .before .before .before .before .before .before .before .args .tape)))) (c .before .before .before .before .before .before .before .before .before .before .before .before .before .before .before .before .before .before .before .before .before .before .before .before .before .before .loop .at) (stateOf (pageWith (c .before .before .if8 .head) (c .before .before .if8 .bands) (c .before .before .if8 .boxes)) (c .before .before .before .before .before .before .before .before .before .before .before .before .before .before .before .before .before .before .before .before .before .before .before .before .before .before .loop .calculator)) (c .before .before .before .before .before .before .before .before .before .before .before .before .before .before .before .before .before .before .before .before .before .before .before .before .before .before .loop .at + 1 + m) (c .before .before .before .before .before .before .before .before .before .before .before .before .before .before .before .before .before .before .before .before .before .before .before .before .before .before .loop .answers) (c .before .before .before .before .before .before .before .before .before .before .before .before .before .before .before .before .before .before .before .before .before .before .before .before .before .before .loop .to) (c .place-line .last .0) (c .place-line .result)
 placement c = λ m e.
     let l = c .before .before .before .before .before .before .before .before .before .before .before .before .before .before .before .before .before .before .before .before .before .before .before .before .before .before .loop in
     let p = places (c .before .before .before .before .before .before .before .before .before .before .before .before .before .before .before .before .before) in
     turned-whole _ _ _ (l .at) (sym (c .before .before .before .before .before .before .before .before .before .before .before .before .before .before .before .before .before .before .before .before .before .before .read-record .ensures) ∙ p .read) (place-left _ (l .calculator) (p .call) _ _ (done (c .before .before) .0) (c .place-line .ensures)) e
 
 -- any other record
-other : (c : tie.After-turn Inv-loop2 μ-loop2 Inv-loop3 μ-loop3 Inv-loop4 μ-loop4 Inv-loop5 μ-loop5 Inv-loop μ-loop) → Turned (stateOf (pageWith (c .before .before .before .before .before .before .before .before .before .before .before .loop .head) (c .before .before .before .before .before .before .before .before .before .before .before .loop .bands) (c .before .before .before .before .before .before .before .before .before .before .before .loop .boxes)) (c .before .before .before .before .before .before .before .before .before .before .before .loop .calculator)) (getD (now (c .before .before .before .before .before .before .before .before .before .before .before .before .before .before .before .before .before .before .args .tape)) (c .before .before .before .before .before .before .before .before .before .before .before .loop .at) 0) (take (length (now (c .before .before .before .before .before .before .before .before .before .before .before .before .before .before .before .before .before .before .args .tape)) - (c .before .before .before .before .before .before .before .before .before .before .before .loop .at + 1)) (drop (c .before .before .before .before .before .before .before .before .before .before .before .loop .at + 1) (now (c .before .before .before .before .before .before .before .before .before .before .before .before .before .before .before .before .before .before .args .tape)))) (c .before .before .before .before .before .before .before .before .before .before .before .loop .at) (stateOf (pageWith (c .turn .result .head) (c .before .before .before .before .before .before .before .before .before .before .before .loop .bands) (c .before .before .before .before .before .before .before .before .before .before .before .loop .boxes)) (c .turn .result .calculator)) (c .turn .result .next) (c .before .before .before .before .before .before .before .before .before .before .before .loop .answers) (c .before .before .before .before .before .before .before .before .before .before .before .loop .to) (c .turn .last .1 .1 .1 .1 .1 .1 .1 .0) (c .turn .result .end)
+other : (c : tie.After-turn Inv-loop2 μ-loop2 Inv-loop3 μ-loop3 Inv-loop4 μ-loop4 Inv-loop5 μ-loop5 Inv-loop μ-loop) → Turned (stateOf (pageWith (c .before .before .before .before .before .before .before .before .before .before .before .loop .head) (c .before .before .before .before .before .before .before .before .before .before .before .loop .bands) (c .before .before .before .before .before .before .before .before .before .before .before .loop .boxes)) (c .before .before .before .before .before .before .before .before .before .before .before .loop .calculator)) (getD (now (c .before .before .before .before .before .before .before .before .before .before .before .before .before .before .before .before .before .args .tape)) (c .before .before .before .before .before .before .before .before .before .before .before .loop .at) 0) (take (length (now (c .before .before .before .before .before .before .before .before .before .before .before .before .before .before .before .before .before .args .tape)) - (c .before .before .before .before .before .before .before .before .before .before .before .loop .at + 1)) (drop (c .before .before .before .before .before .before .before .before .before .before .before .loop .at + 1) (now (c .before .before .before .before .before .before .before .before .before .before .before .before .before .before .before .before .before .args .tape)))) (c .before .before .before .before .before .before .before .before .before .before .before .loop .at) (stateOf (pageWith (c .turn .result .head) (c .before .before .before .before .before .before .before .before .before .before .before .loop .bands) (c .before .before .before .before .before .before .before .before .before .before .before .loop .boxes)) (c .turn .result .calculator)) (c .turn .result .next) (c .before .before .before .before .before .before .before .before .before .before .before .loop .answers) (c .before .before .before .before .before .before .before .before .before .before .before .loop .to) (c .turn .last .1 .1 .1 .1 .1 .1 .1 .0) (c .turn .result .end)
 other c =
     let l = c .before .before .before .before .before .before .before .before .before .before .before .loop in
-    let x = length-take (length (now (c .before .before .before .before .before .before .before .before .before .before .before .before .before .before .before .before .before .before .args .tape)) - (l .at + 1)) (drop (l .at + 1) (now (c .before .before .before .before .before .before .before .before .before .before .before .before .before .before .before .before .before .before .args .tape))) in
-    let y = length-drop (l .at + 1) (now (c .before .before .before .before .before .before .before .before .before .before .before .before .before .before .before .before .before .before .args .tape)) in
+    let x = length-take (length (now (c .before .before .before .before .before .before .before .before .before .before .before .before .before .before .before .before .before .args .tape)) - (l .at + 1)) (drop (l .at + 1) (now (c .before .before .before .before .before .before .before .before .before .before .before .before .before .before .before .before .before .args .tape))) in
+    let y = length-drop (l .at + 1) (now (c .before .before .before .before .before .before .before .before .before .before .before .before .before .before .before .before .before .args .tape)) in
     c .turn .ensures (l .bands) (l .boxes) _ (l .inv .1) (l .inv .2) (c .before .before .before .before .before .before .before .read-record .ensures) (omega (arith, c .before .before .before .before .before .before .before .before .before .before .loop-test .taken))
 
-new-requires : tie.Need-new-requires Inv-loop2 μ-loop2 Inv-loop3 μ-loop3 Inv-loop4 μ-loop4 Inv-loop5 μ-loop5 Inv-loop μ-loop
-new-requires c κs = search needs
+no-band-requires : tie.Need-no-band-requires Inv-loop2 μ-loop2 Inv-loop3 μ-loop3 Inv-loop4 μ-loop4 Inv-loop5 μ-loop5 Inv-loop μ-loop
+no-band-requires c κs = search needs
+
+no-box-requires : tie.Need-no-box-requires Inv-loop2 μ-loop2 Inv-loop3 μ-loop3 Inv-loop4 μ-loop4 Inv-loop5 μ-loop5 Inv-loop μ-loop
+no-box-requires c κs = search needs
 
 fresh-head-requires : tie.Need-fresh-head-requires Inv-loop2 μ-loop2 Inv-loop3 μ-loop3 Inv-loop4 μ-loop4 Inv-loop5 μ-loop5 Inv-loop μ-loop
 fresh-head-requires c κs = search needs
 
 loop-holds : tie.Need-loop-holds Inv-loop2 μ-loop2 Inv-loop3 μ-loop3 Inv-loop4 μ-loop4 Inv-loop5 μ-loop5 Inv-loop μ-loop
-loop-holds c =
-    let n = c .before .before .before .new .ensures in
-    (going-fresh _ _ _ _ _ (c .fresh-head .ensures) (c .before .before .before .before .before .before .pre), bands-long n, boxes-long n)
+loop-holds c = (going-fresh _ _ _ _ _ (c .fresh-head .ensures) (c .before .before .before .before .before .pre), length-replicate {A = Segment} 96 (c .before .before .no-band .result), length-replicate {A = PlacedFloatedBox} 64 (c .before .no-box .result))
 
 shared-slice-read-kind : tie.Need-shared-slice-read-kind Inv-loop2 μ-loop2 Inv-loop3 μ-loop3 Inv-loop4 μ-loop4 Inv-loop5 μ-loop5 Inv-loop μ-loop
 shared-slice-read-kind c = omega arith
@@ -215,16 +218,16 @@ array-copy-out-last : tie.Need-array-copy-out-last Inv-loop2 μ-loop2 Inv-loop3 
 array-copy-out-last c = omega arith
 
 found-line-requires : tie.Need-found-line-requires Inv-loop2 μ-loop2 Inv-loop3 μ-loop3 Inv-loop4 μ-loop4 Inv-loop5 μ-loop5 Inv-loop μ-loop
-found-line-requires c κs = (omega (arith, c .before .before .before .before .before .before .before .before .before .before .before .before .before .before .before .before .before .before .before .loop .inv .0 .few, c .before .before .before .before .before .before .before .before .before .before .before .before .before .before .before .before .before .before .loop-test .taken, c .before .before .before .before .before .before .before .before .before .before .before .before .before .before .before .before .before .before .before .before .before .before .before .before .before .before .pre), sym (c .before .before .before .before .before .before .before .before .before .before .before .before .before .before .asking .ensures .0) ∙ c .before .before .before .before .before .before .before .before .before .before .before .before .before .if1 .taken, c .before .before .before .before .before .before .before .before .before .before .before .before .before .before .asking .ensures .1)
+found-line-requires c κs = (omega (arith, c .before .before .before .before .before .before .before .before .before .before .before .before .before .before .before .before .before .before .before .loop .inv .0 .few, c .before .before .before .before .before .before .before .before .before .before .before .before .before .before .before .before .before .before .loop-test .taken, c .before .before .before .before .before .before .before .before .before .before .before .before .before .before .before .before .before .before .before .before .before .before .before .before .before .pre), sym (c .before .before .before .before .before .before .before .before .before .before .before .before .before .before .asking .ensures .0) ∙ c .before .before .before .before .before .before .before .before .before .before .before .before .before .if1 .taken, c .before .before .before .before .before .before .before .before .before .before .before .before .before .before .asking .ensures .1)
 
 add-at : tie.Need-add-at Inv-loop2 μ-loop2 Inv-loop3 μ-loop3 Inv-loop4 μ-loop4 Inv-loop5 μ-loop5 Inv-loop μ-loop
-add-at c = omega (arith, c .before .before .before .before .before .before .before .before .before .before .before .before .before .before .before .before .before .before .before .before .before .before .loop .inv .0 .inside, c .before .before .before .before .before .before .before .before .before .before .before .before .before .before .before .before .before .before .before .before .before .before .before .before .before .before .before .before .before .pre)
+add-at c = omega (arith, c .before .before .before .before .before .before .before .before .before .before .before .before .before .before .before .before .before .before .before .before .before .before .loop .inv .0 .inside, c .before .before .before .before .before .before .before .before .before .before .before .before .before .before .before .before .before .before .before .before .before .before .before .before .before .before .before .before .pre)
 
 body-len-requires : tie.Need-body-len-requires Inv-loop2 μ-loop2 Inv-loop3 μ-loop3 Inv-loop4 μ-loop4 Inv-loop5 μ-loop5 Inv-loop μ-loop
 body-len-requires c κs = search needs
 
 add-at-2 : tie.Need-add-at-2 Inv-loop2 μ-loop2 Inv-loop3 μ-loop3 Inv-loop4 μ-loop4 Inv-loop5 μ-loop5 Inv-loop μ-loop
-add-at-2 c = omega (arith, body-short (getD (now (c .before .before .before .before .before .before .before .before .before .before .before .before .before .before .before .before .before .before .before .before .before .before .before .before .before .before .before .before .before .before .args .tape)) (c .before .before .before .before .before .before .before .before .before .before .before .before .before .before .before .before .before .before .before .before .before .before .before .loop .at) 0), c .body-len .ensures, c .before .before .before .before .before .before .before .before .before .before .before .before .before .before .before .before .before .before .before .before .before .before .before .loop .inv .0 .inside, c .before .before .before .before .before .before .before .before .before .before .before .before .before .before .before .before .before .before .before .before .before .before .before .before .before .before .before .before .before .before .pre)
+add-at-2 c = omega (arith, body-short (getD (now (c .before .before .before .before .before .before .before .before .before .before .before .before .before .before .before .before .before .before .before .before .before .before .before .before .before .before .before .before .before .args .tape)) (c .before .before .before .before .before .before .before .before .before .before .before .before .before .before .before .before .before .before .before .before .before .before .before .loop .at) 0), c .body-len .ensures, c .before .before .before .before .before .before .before .before .before .before .before .before .before .before .before .before .before .before .before .before .before .before .before .loop .inv .0 .inside, c .before .before .before .before .before .before .before .before .before .before .before .before .before .before .before .before .before .before .before .before .before .before .before .before .before .before .before .before .before .pre)
 
 loop-less : tie.Need-loop-less Inv-loop2 μ-loop2 Inv-loop3 μ-loop3 Inv-loop4 μ-loop4 Inv-loop5 μ-loop5 Inv-loop μ-loop
 loop-less c = let t = question (c .before .before .before) _ (c .body-len .ensures) in omega (arith, c .before .before .before .before .before .before .before .before .before .before .before .before .before .before .before .before .before .before .before .before .before .before .loop-test .taken, t .on)
@@ -331,16 +334,16 @@ array-set-from-boxes : tie.Need-array-set-from-boxes Inv-loop2 μ-loop2 Inv-loop
 array-set-from-boxes c = omega (arith, room (c .before .before .before .before .before) .2, c .before .before .before .before .before .before .before .before .before .before .before .before .before .before .before .before .before .before .before .before .before .before .before .before .before .before .before .before .before .loop .inv .2)
 
 place-line-requires : tie.Need-place-line-requires Inv-loop2 μ-loop2 Inv-loop3 μ-loop3 Inv-loop4 μ-loop4 Inv-loop5 μ-loop5 Inv-loop μ-loop
-place-line-requires c κs = omega (arith, c .before .before .before .before .before .before .before .before .before .before .before .before .before .before .before .before .before .before .before .before .before .before .before .before .before .loop .inv .0 .few, c .before .before .before .before .before .before .before .before .before .before .before .before .before .before .before .before .before .before .before .before .before .before .before .before .loop-test .taken, c .before .before .before .before .before .before .before .before .before .before .before .before .before .before .before .before .before .before .before .before .before .before .before .before .before .before .before .before .before .before .before .before .pre)
+place-line-requires c κs = omega (arith, c .before .before .before .before .before .before .before .before .before .before .before .before .before .before .before .before .before .before .before .before .before .before .before .before .before .loop .inv .0 .few, c .before .before .before .before .before .before .before .before .before .before .before .before .before .before .before .before .before .before .before .before .before .before .before .before .loop-test .taken, c .before .before .before .before .before .before .before .before .before .before .before .before .before .before .before .before .before .before .before .before .before .before .before .before .before .before .before .before .before .before .before .pre)
 
 add-at-3 : tie.Need-add-at-3 Inv-loop2 μ-loop2 Inv-loop3 μ-loop3 Inv-loop4 μ-loop4 Inv-loop5 μ-loop5 Inv-loop μ-loop
-add-at-3 c = omega (arith, c .before .before .before .before .before .before .before .before .before .before .before .before .before .before .before .before .before .before .before .before .before .before .before .before .before .before .before .before .loop .inv .0 .inside, c .before .before .before .before .before .before .before .before .before .before .before .before .before .before .before .before .before .before .before .before .before .before .before .before .before .before .before .before .before .before .before .before .before .before .before .pre)
+add-at-3 c = omega (arith, c .before .before .before .before .before .before .before .before .before .before .before .before .before .before .before .before .before .before .before .before .before .before .before .before .before .before .before .before .loop .inv .0 .inside, c .before .before .before .before .before .before .before .before .before .before .before .before .before .before .before .before .before .before .before .before .before .before .before .before .before .before .before .before .before .before .before .before .before .before .pre)
 
 body-len-requires-2 : tie.Need-body-len-requires-2 Inv-loop2 μ-loop2 Inv-loop3 μ-loop3 Inv-loop4 μ-loop4 Inv-loop5 μ-loop5 Inv-loop μ-loop
 body-len-requires-2 c κs = search needs
 
 add-at-4 : tie.Need-add-at-4 Inv-loop2 μ-loop2 Inv-loop3 μ-loop3 Inv-loop4 μ-loop4 Inv-loop5 μ-loop5 Inv-loop μ-loop
-add-at-4 c = omega (arith, body-short (getD (now (c .before .before .before .before .before .before .before .before .before .before .before .before .before .before .before .before .before .before .before .before .before .before .before .before .before .before .before .before .before .before .before .before .before .before .before .before .args .tape)) (c .before .before .before .before .before .before .before .before .before .before .before .before .before .before .before .before .before .before .before .before .before .before .before .before .before .before .before .before .before .loop .at) 0), c .body-len2 .ensures, c .before .before .before .before .before .before .before .before .before .before .before .before .before .before .before .before .before .before .before .before .before .before .before .before .before .before .before .before .before .loop .inv .0 .inside, c .before .before .before .before .before .before .before .before .before .before .before .before .before .before .before .before .before .before .before .before .before .before .before .before .before .before .before .before .before .before .before .before .before .before .before .before .pre)
+add-at-4 c = omega (arith, body-short (getD (now (c .before .before .before .before .before .before .before .before .before .before .before .before .before .before .before .before .before .before .before .before .before .before .before .before .before .before .before .before .before .before .before .before .before .before .before .args .tape)) (c .before .before .before .before .before .before .before .before .before .before .before .before .before .before .before .before .before .before .before .before .before .before .before .before .before .before .before .before .before .loop .at) 0), c .body-len2 .ensures, c .before .before .before .before .before .before .before .before .before .before .before .before .before .before .before .before .before .before .before .before .before .before .before .before .before .before .before .before .before .loop .inv .0 .inside, c .before .before .before .before .before .before .before .before .before .before .before .before .before .before .before .before .before .before .before .before .before .before .before .before .before .before .before .before .before .before .before .before .before .before .before .pre)
 
 loop-less-2 : tie.Need-loop-less-2 Inv-loop2 μ-loop2 Inv-loop3 μ-loop3 Inv-loop4 μ-loop4 Inv-loop5 μ-loop5 Inv-loop μ-loop
 loop-less-2 c = let t = placement (c .before .before .before) _ (c .body-len2 .ensures) in omega (arith, c .before .before .before .before .before .before .before .before .before .before .before .before .before .before .before .before .before .before .before .before .before .before .before .before .before .before .before .before .loop-test .taken, t .on)
@@ -351,7 +354,7 @@ loop-again-2 c =
     (going-more _ _ (c .before .before .before .before .before .before .before .before .before .before .before .before .before .before .before .before .before .before .before .before .before .before .before .before .before .before .before .before .before .loop .inv .0) (c .before .before .before .before .before .before .before .before .before .before .before .before .before .before .before .before .before .before .before .before .before .before .before .before .before .before .before .before .loop-test .taken) (placement (c .before .before .before) _ (c .body-len2 .ensures)), d .1, d .2)
 
 turn-requires : tie.Need-turn-requires Inv-loop2 μ-loop2 Inv-loop3 μ-loop3 Inv-loop4 μ-loop4 Inv-loop5 μ-loop5 Inv-loop μ-loop
-turn-requires c κs = (omega (arith, c .before .before .before .before .before .before .before .before .before .before .loop .inv .0 .few, c .before .before .before .before .before .before .before .before .before .loop-test .taken, c .before .before .before .before .before .before .before .before .before .before .before .before .before .before .before .before .before .pre), c .before .before .before .before .before .before .before .before .before .loop-test .taken, c .before .before .before .before .before .before .before .before .before .before .before .before .before .before .before .before .before .pre, sym (c .before .before .before .before .before .asking .ensures .0) ∙ c .before .before .before .before .if1 .left, c .before .before .before .placing .ensures .1 (c .before .if6 .left))
+turn-requires c κs = (omega (arith, c .before .before .before .before .before .before .before .before .before .before .loop .inv .0 .few, c .before .before .before .before .before .before .before .before .before .loop-test .taken, c .before .before .before .before .before .before .before .before .before .before .before .before .before .before .before .before .pre), c .before .before .before .before .before .before .before .before .before .loop-test .taken, c .before .before .before .before .before .before .before .before .before .before .before .before .before .before .before .before .pre, sym (c .before .before .before .before .before .asking .ensures .0) ∙ c .before .before .before .before .if1 .left, c .before .before .before .placing .ensures .1 (c .before .if6 .left))
 
 loop-less-3 : tie.Need-loop-less-3 Inv-loop2 μ-loop2 Inv-loop3 μ-loop3 Inv-loop4 μ-loop4 Inv-loop5 μ-loop5 Inv-loop μ-loop
 loop-less-3 c = let t = other (c .before .before .before) in omega (arith, c .before .before .before .before .before .before .before .before .before .before .before .before .before .loop-test .taken, t .on)
@@ -361,11 +364,22 @@ loop-again-3 c =
     let l = c .before .before .before .before .before .before .before .before .before .before .before .before .before .before .loop in
     (going-more _ _ (l .inv .0) (c .before .before .before .before .before .before .before .before .before .before .before .before .before .loop-test .taken) (other (c .before .before .before)), l .inv .1, l .inv .2)
 
+placed-requires-4 : tie.Need-placed-requires-4 Inv-loop2 μ-loop2 Inv-loop3 μ-loop3 Inv-loop4 μ-loop4 Inv-loop5 μ-loop5 Inv-loop μ-loop
+placed-requires-4 c κs = search needs
+
+mul-picked : tie.Need-mul-picked Inv-loop2 μ-loop2 Inv-loop3 μ-loop3 Inv-loop4 μ-loop4 Inv-loop5 μ-loop5 Inv-loop μ-loop
+mul-picked c = omega arith
+
+array-copy-out-picked : tie.Need-array-copy-out-picked Inv-loop2 μ-loop2 Inv-loop3 μ-loop3 Inv-loop4 μ-loop4 Inv-loop5 μ-loop5 Inv-loop μ-loop
+array-copy-out-picked c = omega arith
+
 same-length : tie.Need-same-length Inv-loop2 μ-loop2 Inv-loop3 μ-loop3 Inv-loop4 μ-loop4 Inv-loop5 μ-loop5 Inv-loop μ-loop
-same-length c = c .before .loop .inv .0 .put .long
+same-length c = c .before .before .before .loop .inv .0 .put .long
 
 returns : tie.Need-returns Inv-loop2 μ-loop2 Inv-loop3 μ-loop3 Inv-loop4 μ-loop4 Inv-loop5 μ-loop5 Inv-loop μ-loop
-returns c = going-done _ _ (c .before .loop .inv .0) (c .loop-test .left) (c .before .before .before .before .before .before .before .before .pre)
+returns c =
+    let l = c .before .before .before .loop in
+    going-done _ _ (l .inv .0) (c .before .before .loop-test .left) (c .before .before .before .before .before .before .before .before .before .pre) (l .inv .1) (c .before .placed4 .ensures)
 
 pub records-spec : {M : Type 1} → statement M
 records-spec =
@@ -381,7 +395,8 @@ records-spec =
     μ-loop5
     Inv-loop
     μ-loop
-    new-requires
+    no-band-requires
+    no-box-requires
     fresh-head-requires
     loop-holds
     shared-slice-read-kind
@@ -456,5 +471,8 @@ records-spec =
     turn-requires
     loop-less-3
     loop-again-3
+    placed-requires-4
+    mul-picked
+    array-copy-out-picked
     same-length
     returns)
