@@ -1,6 +1,6 @@
 -- The promises of every tape, whatever its bytes: each cites the promise of the calls that its first n records make. To read them takes the definitions and no other proof.
 use Prim.Native.Nat.{ℕ, suc, _+_, _≤_, _<_}
-use mathlib.Core.Bool.{true, not}
+use mathlib.Core.Bool.{true, false, not}
 use mathlib.Core.Path.{_≡_, sym, ap, _∙_}
 use mathlib.Core.List.{List, map}
 use lib.Dec.{T}
@@ -20,7 +20,7 @@ use Rattle.float.specs.Slot.{innermost}
 use Rattle.tape.specs.Record.{placeRecord}
 use Rattle.tape.specs.Tape.{returnedBox, innermostAfter}
 use Rattle.demands.specs.Runs.{Each, Pairs, boxIn, run, pageIn, bandsIn, Stays, Handed, Whole64, NoSmaller, EdgeToEdge, sideIn, containingLead, containingTrail, sized, shareHeight, overlap, present, Names, farInset, Holds, StandsAt, F32, Page64}
-use Rattle.demands.proofs.Promises.{bands-lie, boxes-kept, no-inset-smaller, two-bands-more, steps-at-most, rule-1, rule-5, number-with-mark, number-names, innermost-told, page-in-64ths, rule-7, no-overlap, none-further-in}
+use Rattle.demands.proofs.Promises.{bands-lie, boxes-kept, no-inset-smaller, two-bands-more, steps-at-most, rule-1, rule-5, number-with-mark, number-names, innermost-told, page-in-64ths, rule-7, no-overlap, none-further-in, unmarked-free}
 use Rattle.tied.specs.Acts.{recordsOf, RecordAt, callsAt, runAt, wholeRun, callsNext}
 use Rattle.tied.proofs.Handed.{tape-f32, next-f32}
 use Rattle.tied.proofs.Calls.{run-next, run-one, page-after-tape, returned-number}
@@ -87,3 +87,8 @@ tape-no-overlap t n = no-overlap (callsAt t n) (tape-f32 t n)
 pub tape-none-further-in : (t : List ℕ) (n : ℕ) → Handed Whole64 (callsAt t n) → (i : ℕ) → i < length (bandsIn (runAt t n)) → (h : Float) → F32 h → Holds (getD (bandsIn (runAt t n)) i none) h
     → Each (λ a. StandsAt a h → T (le (farInset a) (lead (sideIn a) (getD (bandsIn (runAt t n)) i none)))) (runAt t n .accepted)
 tape-none-further-in t n = none-further-in (callsAt t n) (tape-f32 t n)
+
+-- where a side of a band has no mark, and so no number, no box of that side stands at a height of it
+pub tape-unmarked-free : (t : List ℕ) (n : ℕ) → Handed Whole64 (callsAt t n) → (i : ℕ) → i < length (bandsIn (runAt t n)) → (s : FloatDirection) → hasFloat s (getD (bandsIn (runAt t n)) i none) ≡ false → (h : Float) → F32 h → Holds (getD (bandsIn (runAt t n)) i none) h
+    → Each (λ a. sideIn a ≡ s → StandsAt a h → ⊥) (runAt t n .accepted)
+tape-unmarked-free t n = unmarked-free (callsAt t n) (tape-f32 t n)
