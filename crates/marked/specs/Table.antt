@@ -148,6 +148,7 @@ table =
     ∷ names 3 (count 1) missing
     ∷ left 20 45 20 10 5
     ∷ names 2 (count 4) (count 3)
+    ∷ names 4 (count 4) missing
     ∷ bands 5
     ∷ ask 56 0 (count 4) 40 56 0
     -- 9, content clearing left
