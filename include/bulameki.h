@@ -11,7 +11,7 @@
        unless it first steps over them. No heap, no static memory.
      - Time: it grows with the tape's length and is bounded. The worst tape found for version 0.1.0, 65,536 bytes of
        kind 0, took it 14 ms on a server of two cores, and 27 ms in a room that was just enough, where a tape is run
-       twice. Version 0.2.0 takes a ninth of the instructions for a fresh page and its width, and has not been timed.
+       twice. Since version 0.2.0 it takes a ninth of the instructions for a fresh page and its width; not timed since.
      - A floating-point environment as C and the ABI start one (MXCSR 0x1F80): rounding to nearest, subnormals neither
        flushed to zero nor read as zero, all exceptions masked. In another one answers are wrong, pictures may lie over
        each other, and an unmasked exception ends the program at the first NaN. Linking with -ffast-math is enough to

@@ -215,6 +215,7 @@ overlap a b = shareHeight a b && lt (a .x) (rightEdge b) && lt (b .x) (rightEdge
 
 -- ---- the box that a band names (1/14)
 
+-- there is a number
 abbrev pub present : BoxNumber → Bool
 present BoxNumber.None = false
 present (BoxNumber.At k) = true

@@ -105,7 +105,7 @@ run (suc f) i (k ∷ body) s =
 unfoldable pub linesOf : List ℕ → List ℕ
 linesOf t = elim (leb (length t) 65536) [ true ↦ run (length t) 0 t freshState | false ↦ row 76 [] ]
 
--- what stands after the records of a tape, up to the first that is broken
+-- what stands after the records of a tape, up to the first that is broken; the fuel lasts as in `run`
 unfoldable pub runs : ℕ → List ℕ → State → State
 runs zero t s = s
 runs (suc f) [] s = s
