@@ -57,19 +57,6 @@ impl FloatContext {
             .collect()
     }
 
-    /// For each side the first and the past-last band number.
-    pub fn kept(&self) -> [Range<usize>; 2] {
-        self.last_placed_floats.clone()
-    }
-
-    pub fn bottoms(&self) -> [Option<f32>; 2] {
-        self.clear_bottoms
-    }
-
-    pub fn ceiling(&self) -> Option<f32> {
-        self.float_ceiling
-    }
-
     pub fn width(&self) -> f32 {
         self.available_width
     }

@@ -73,10 +73,10 @@ extern "C" {
 #endif
 
 /* This header and the archive are of one version; CHANGELOG.md says what each brought. */
-#define BULAMEKI_VERSION "0.3.0"
+#define BULAMEKI_VERSION "0.4.0"
 
 /* The deepest stack of a call in bytes, its return address counted: measured, as docs/SPEED.md says. */
-#define BULAMEKI_STACK 5248
+#define BULAMEKI_STACK 5280
 
 enum bulameki_kind {
     BULAMEKI_NEW = 0,

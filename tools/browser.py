@@ -14,7 +14,7 @@ start of the browser, and through as few tapes as hold them.
 It prints a table (Markdown): of each kind of pages how many agree whole, and the first that does not, shrunk: boxes
 left out and numbers made simpler as long as it stays of its kind and some box stands elsewhere. It is in the text of
 tape.py, with the place of its last box. The same seed gives the same pages. Status 1 where a page of positive sizes
-without insets and clear differs, or something does not run. Of a FILE it prints each page with the place of its last
+without insets differs, clear or not, or something does not run. Of a FILE it prints each page with the place of its last
 box.
 """
 import argparse
@@ -255,7 +255,7 @@ def compare_random(browser, pages, seed):
         others = [row for row in rows if row[1] != row[2]]
         example = shown(shrunk(browser, kind, others[0])) if others else [''] * 3
         print('| ' + ' | '.join([kind.said, f'{len(rows) - len(others):,}', *example]) + ' |', flush=True)
-        status |= bool(others) and kind == KINDS[0]
+        status |= bool(others) and not (kind.empty or kind.insets)
     return status
 
 

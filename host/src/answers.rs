@@ -63,7 +63,7 @@ pub fn sample() -> Vec<Pair> {
         all.push(tapes::any_bytes(&mut random));
     }
     // the page on which the refusals 4 to 7 hold together
-    all.extend(tapes::faults(tapes::troubled_pages().last().unwrap()));
+    all.extend(tapes::faults(tapes::troubled_pages().last().unwrap(), 1));
     let answered = |tape: Vec<u8>| {
         let lines = judge::lines(&tape);
         (tape, lines)

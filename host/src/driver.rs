@@ -1,11 +1,12 @@
-//! Runs tapes through an archive and the judge, compares every byte and the boxes' numbers in the bands, and shrinks a tape on which they
-//! differ.
+//! Runs the pages of tapes through an archive and the judge, compares every byte and the boxes' numbers in the bands, and shrinks a tape on
+//! which they differ.
 
 use crate::account::Account;
 use crate::archive::{difference, room, Innermost, Runner};
 use crate::float_counted::Band;
-use crate::judge::{self, Answer, Counts, Judge};
-use crate::tape::{self, body_length, bytes, Field, Record, BODIES, LONGEST, NONE};
+use crate::judge::{Answer, Counts, Judge};
+use crate::raised::Asking;
+use crate::tape::{self, body_length, bytes, Field, Page, Record, BODIES, LONGEST, NONE};
 use std::fmt::Write;
 use std::ops::RangeInclusive;
 
@@ -21,8 +22,8 @@ pub struct Found {
     pub report: String,
 }
 
-fn first_difference(run: Runner, tape: &[u8], more: Option<usize>) -> Option<String> {
-    let lines = judge::lines(tape);
+fn first_difference(run: Runner, tape: &[u8], more: Option<usize>, asking: Asking) -> Option<String> {
+    let lines = Judge::asking(asking).lines(tape);
     let rooms = rooms(lines.len()).into_iter().chain([room(tape)]);
     more.into_iter().chain(rooms).find_map(|room| difference(run, tape, &lines, room))
 }
@@ -129,29 +130,56 @@ const THOROUGH: u64 = 32;
 
 const NOT_AGAIN: &str = "only on this tape, and not when run again";
 
-/// Compares tapes, and keeps count.
+/// Compares pages, and keeps count: those on which no call clears with the crate as it is, the others with the crate asked without clear at
+/// the raised min_y.
 pub struct Driver {
     /// none: the tapes are judged and counted, and nothing is compared
     run: Option<Runner>,
     innermost: Option<Innermost>,
+    asking: Asking,
     pub tapes: u64,
+    /// pages with a placement or a slot question, those of the other run counted
+    pub met: u64,
+    /// those of this run
+    pub pages: u64,
+    /// those of this run that the crate as it is answers otherwise
+    pub otherwise: u64,
     pub counts: Counts,
     /// bands' sides of which the box's number was asked
     pub touched: u64,
 }
 
 impl Driver {
-    pub fn new(run: Option<Runner>, innermost: Option<Innermost>) -> Self {
-        Driver { run, innermost, tapes: 0, counts: Counts::default(), touched: 0 }
+    pub fn new(run: Option<Runner>, innermost: Option<Innermost>, asking: Asking) -> Self {
+        let counts = Counts::default();
+        Driver { run, innermost, asking, tapes: 0, met: 0, pages: 0, otherwise: 0, counts, touched: 0 }
+    }
+
+    /// Whether a page is of this run.
+    fn takes(&self, clears: bool) -> bool {
+        clears == (self.asking == Asking::Raised)
+    }
+
+    /// The tape of those of its pages that are of this run, if there are any.
+    fn own(&mut self, tape: &[u8]) -> Option<Vec<u8>> {
+        let mut pages = tape::pages(tape);
+        let with_calls = |pages: &[Page]| pages.iter().filter(|page| page.calls > 0).count() as u64;
+        self.met += with_calls(&pages);
+        pages.retain(|page| self.takes(page.clears));
+        self.pages += with_calls(&pages);
+        (!pages.is_empty()).then(|| pages.iter().flat_map(|page| page.bytes).copied().collect())
     }
 
     /// The lines of the tape, its answers counted, and the account after it.
     fn judged(&mut self, tape: &[u8]) -> (Vec<u8>, Account) {
-        let mut judge = Judge::default();
+        let mut judge = Judge::asking(self.asking);
         judge.counts = self.counts;
         let lines = judge.lines(tape);
         self.counts = judge.counts;
         self.tapes += 1;
+        if self.asking == Asking::Raised {
+            self.otherwise += pages_otherwise(&lines, &Judge::asking(Asking::AsItIs).lines(tape));
+        }
         (lines, judge.account)
     }
 
@@ -162,8 +190,9 @@ impl Driver {
             return Ok(());
         }
         let exact = (room + 8 < lines.len()).then_some(room);
-        let tape = shrunk(tape, |tape| first_difference(run, tape, exact).is_some());
-        let report = first_difference(run, &tape, exact).unwrap_or(NOT_AGAIN.into());
+        let differs = |tape: &[u8]| first_difference(run, tape, exact, self.asking);
+        let tape = shrunk(tape, |tape| differs(tape).is_some());
+        let report = differs(&tape).unwrap_or(NOT_AGAIN.into());
         Err(Found { tape, report })
     }
 
@@ -175,7 +204,7 @@ impl Driver {
             return Ok(());
         }
         let other = |tape: &[u8]| {
-            let account = judge::account(tape);
+            let account = Judge::asking(self.asking).account_after(tape);
             other_box(innermost, tape, &account, every_band(&account))
         };
         let tape = shrunk(tape, |tape| other(tape).is_some());
@@ -183,9 +212,10 @@ impl Driver {
         Err(Found { tape, report })
     }
 
-    /// One tape, in a room to spare by a few bytes or, each fourth time, in one that is surely enough, where a tape is run once and
-    /// not counted first; and, each eighth time, in one that is a byte too short, and with the numbers of one band asked.
+    /// The pages of one tape, in a room to spare by a few bytes or, each fourth time, in one that is surely enough, where a tape is run
+    /// once and not counted first; and, each eighth time, in one that is a byte too short, and with the numbers of one band asked.
     pub fn tape(&mut self, tape: &[u8]) -> Result<(), Found> {
+        let Some(tape) = &self.own(tape) else { return Ok(()) };
         let (lines, account) = self.judged(tape);
         let room = if self.tapes % 4 == 1 { room(tape) } else { lines.len() + (self.tapes % 9) as usize };
         self.run(tape, &lines, room)?;
@@ -199,47 +229,64 @@ impl Driver {
         Ok(())
     }
 
-    /// One tape in every room from none to one byte past the need.
+    /// The pages of one tape in every room from none to one byte past the need.
     pub fn every_room(&mut self, tape: &[u8]) -> Result<(), Found> {
+        let Some(tape) = &self.own(tape) else { return Ok(()) };
         let (lines, _) = self.judged(tape);
         (0..=lines.len() + 1).try_for_each(|room| self.run(tape, &lines, room))
     }
 
-    /// The records with the whole page asked after every accepted placement. Where a tape grows too long, a new one begins with the
-    /// same records, without the questions asked so far. The boxes' numbers in all bands are asked on tapes of their own: a question runs
-    /// its tape.
+    /// The records with the whole page asked after every accepted placement. Some of the questions clear, so in the run of pages that clear
+    /// it is every page; in the other run they are left out, and so is a page that clears. Where a tape grows too long, a new one begins
+    /// with the same records, without the questions asked so far. The boxes' numbers in all bands are asked on tapes of their own: a
+    /// question runs its tape.
     pub fn asked(&mut self, records: &[Record]) -> Result<(), Found> {
-        let mut judge = Judge::default();
+        let mut judge = Judge::asking(self.asking);
         let thorough = self.tapes % THOROUGH == 0;
-        let mut tape = Vec::new();
+        let clearing = self.asking == Asking::Raised;
+        let (mut tape, mut unasked) = (Vec::new(), Vec::new());
+        let mut own = false;
         for (done, record) in records.iter().enumerate() {
+            if done == 0 || matches!(record, Record::New) {
+                own = self.takes(first_page(&records[done..]).iter().any(Record::clears));
+            }
             record.write(&mut tape);
+            if !own && !clearing {
+                continue;
+            }
+            record.write(&mut unasked);
             if !matches!(judge.answer(record), Answer::Placed { .. }) {
                 continue;
             }
-            let questions = page_questions(&judge);
+            let questions = page_questions(&judge, clearing);
             let asked = bytes(&questions);
             if tape.len() + asked.len() > LONGEST {
                 self.tape(&tape)?;
-                tape = bytes(&records[..=done]);
+                tape = unasked.clone();
             }
             tape.extend(asked);
             let answers: Vec<Answer> = questions.iter().map(|question| judge.answer(question)).collect();
             check_page(&judge.page.bands(), judge.page.width(), &answers);
-            if thorough || judge.boxes() <= FEW {
-                self.numbers(&bytes(&records[..=done]), &judge.account, every_band(&judge.account))?;
+            if own && (thorough || judge.boxes() <= FEW) {
+                self.numbers(&unasked, &judge.account, every_band(&judge.account))?;
             }
         }
-        if !thorough && judge.boxes() > FEW {
-            self.numbers(&bytes(records), &judge.account, every_band(&judge.account))?;
+        if own && !thorough && judge.boxes() > FEW {
+            self.numbers(&unasked, &judge.account, every_band(&judge.account))?;
         }
+        assert!(clearing || judge.counts.clearing == 0, "the crate was asked to clear");
         self.tape(&tape)
     }
 
-    /// Tapes, placements, questions, each refusal by its number, and the sides of bands whose box was asked.
+    /// Pages, tapes, placements, questions, each refusal by its number, and the sides of bands whose box was asked.
     pub fn summary(&self) -> String {
-        let Counts { placements, questions, refusals } = self.counts;
-        let mut line = format!("{} tapes, {placements} placements, {questions} questions, refusals", self.tapes);
+        let Driver { tapes, met, pages, otherwise, counts, .. } = self;
+        let Counts { placements, questions, clearing, refusals } = counts;
+        let mut line = format!("{pages} of {met} pages, {tapes} tapes, {placements} placements, {questions} questions");
+        if self.asking == Asking::Raised {
+            write!(line, ", {clearing} calls that clear, {otherwise} pages otherwise by the crate as it is").unwrap();
+        }
+        line += ", refusals";
         for number in (1..=8).chain([13]) {
             write!(line, " {number}: {}", refusals[number]).unwrap();
         }
@@ -248,12 +295,30 @@ impl Driver {
     }
 }
 
+/// The records before the next New.
+fn first_page(records: &[Record]) -> &[Record] {
+    records.chunk_by(|_, next| !matches!(next, Record::New)).next().unwrap_or(&[])
+}
+
+/// On how many pages two answers to a tape differ. A line N begins a page, but for the first.
+fn pages_otherwise(lines: &[u8], others: &[u8]) -> u64 {
+    let [lines, others] = [lines, others].map(|lines| lines.split(|byte| *byte == b'\n'));
+    let (mut count, mut counted) = (0, false);
+    for (line, other) in lines.zip(others) {
+        counted &= line != b"N";
+        if line != other && !counted {
+            (count, counted) = (count + 1, true);
+        }
+    }
+    count
+}
+
 /// Far above every page, and a margin that leaves no inset but a mark's.
 const FAR: f32 = -65_536.0;
 
-/// For each band number the questions that show its start, its insets and its marks; then one that shows the last end, and one for
-/// each clear that shows the bottoms.
-fn page_questions(judge: &Judge) -> Vec<Record> {
+/// For each band number the questions that show its start, its insets and its marks; then one that shows the last end, and, if some may
+/// clear, one for each clear that shows the bottoms.
+fn page_questions(judge: &Judge, clearing: bool) -> Vec<Record> {
     let width = judge.page.width();
     let mut questions = Vec::new();
     for band in 0..=judge.page.band_count() {
@@ -272,8 +337,9 @@ fn page_questions(judge: &Judge) -> Vec<Record> {
             });
         }
     }
-    for clear in 1..4 {
-        questions.push(Record::Content { min_y: FAR, insets: [0.0, 0.0], clear, after: NONE });
+    if clearing {
+        let bottoms = |clear| Record::Content { min_y: FAR, insets: [0.0, 0.0], clear, after: NONE };
+        questions.extend([1, 2, 3].map(bottoms));
     }
     questions
 }

@@ -1,5 +1,5 @@
 //! The job of `bulameki_run_tape` in plain Rust over the crate, as lean as one would write it: what the bench measures the archive against.
-//! The crate gives no step count: its lines have 0 there.
+//! The crate gives no step count: its lines have 0 there. Calls that clear are asked as `raised` says.
 
 use crate::call::{Call, Placement, BANDS, BOXES, REACH};
 use crate::float_read::{BfcSlot, ContentSlot, FloatContext, FloatIntrinsicWidthCalculator};
@@ -26,7 +26,8 @@ impl Job {
             return Err(5);
         }
         let before = self.near_a_limit(&of).then(|| self.page.clone());
-        let spot = self.page.place_floated_box(of.size, of.min_y, of.insets, of.side, of.clear);
+        let min_y = self.page.raised(of.min_y, of.clear);
+        let spot = self.page.place_floated_box(of.size, min_y, of.insets, of.side, Clear::None);
         let Some(before) = before else { return Ok(spot) };
         let refusal = if spot.y + of.size.height > REACH {
             6
@@ -65,15 +66,17 @@ impl Job {
                 lines.decimal(0);
             }
             Call::Content { min_y, insets, clear, after } => {
+                let min_y = self.page.raised_for_slot(min_y, clear);
                 let ContentSlot { segment_id, x, y, width, .. } =
-                    self.page.find_content_slot(min_y, insets, clear, after);
+                    self.page.find_content_slot(min_y, insets, Clear::None, after);
                 lines.letter(b'C');
                 lines.band(segment_id);
                 lines.numbers([x, y, width]);
             }
             Call::Bfc { min_y, insets, margins, direction, clear, after } => {
+                let min_y = self.page.raised_for_slot(min_y, clear);
                 let BfcSlot { segment_id, x, y, border_width, stretch_width } =
-                    self.page.find_bfc_slot(min_y, insets, margins, direction, clear, after);
+                    self.page.find_bfc_slot(min_y, insets, margins, direction, Clear::None, after);
                 lines.letter(b'B');
                 lines.band(segment_id);
                 lines.numbers([x, y, border_width, stretch_width]);

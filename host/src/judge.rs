@@ -1,11 +1,12 @@
 //! What the crate answers behind document 01's limits and refusals: every line of a tape, from the counted copy of float.rs; and which
-//! box stands innermost in a band, by the account kept beside it.
+//! box stands innermost in a band, by the account kept beside it. Calls that clear are asked as `raised` says.
 
 use crate::account::Account;
 use crate::call::{Call, Placement, BANDS, BOXES, REACH};
 use crate::float_counted::{take_changes, take_steps, FloatContext, FloatIntrinsicWidthCalculator};
+use crate::raised::Asking;
 use crate::tape::{record_at, Record, LONGEST};
-use crate::FloatDirection;
+use crate::{Clear, FloatDirection};
 
 /// The answer to one record.
 #[derive(Debug, Clone, Copy, PartialEq)]
@@ -26,6 +27,8 @@ pub enum Answer {
 pub struct Counts {
     pub placements: u64,
     pub questions: u64,
+    /// placements and slot questions with clear for which the crate was asked
+    pub clearing: u64,
     pub refusals: [u64; 14],
 }
 
@@ -35,10 +38,15 @@ pub struct Judge {
     pub page: FloatContext,
     pub account: Account,
     calculator: Option<FloatIntrinsicWidthCalculator>,
+    asking: Asking,
     pub counts: Counts,
 }
 
 impl Judge {
+    pub fn asking(asking: Asking) -> Self {
+        Judge { asking, ..Judge::default() }
+    }
+
     pub fn answer(&mut self, record: &Record) -> Answer {
         let answer = self.decide(record).unwrap_or_else(Answer::Refused);
         match answer {
@@ -59,7 +67,7 @@ impl Judge {
     fn decide(&mut self, record: &Record) -> Result<Answer, u8> {
         match Call::of(record)? {
             Call::New => {
-                *self = Judge { counts: self.counts, ..Judge::default() };
+                *self = Judge { counts: self.counts, ..Judge::asking(self.asking) };
                 Ok(Answer::Fresh)
             }
             Call::Width(width) => {
@@ -71,10 +79,12 @@ impl Judge {
             }
             Call::Place(placement) => self.place(placement),
             Call::Content { min_y, insets, clear, after } => {
+                let (min_y, clear) = self.given(min_y, clear, self.page.raised_for_slot(min_y, clear));
                 let slot = self.page.find_content_slot(min_y, insets, clear, after);
                 Ok(Answer::Content { band: slot.segment_id, x: slot.x, y: slot.y, width: slot.width })
             }
             Call::Bfc { min_y, insets, margins, direction, clear, after } => {
+                let (min_y, clear) = self.given(min_y, clear, self.page.raised_for_slot(min_y, clear));
                 let slot = self.page.find_bfc_slot(min_y, insets, margins, direction, clear, after);
                 let (border, stretch) = (slot.border_width, slot.stretch_width);
                 Ok(Answer::Bfc { band: slot.segment_id, x: slot.x, y: slot.y, border, stretch })
@@ -97,11 +107,21 @@ impl Judge {
         }
     }
 
+    /// min_y and clear as the crate is given them.
+    fn given(&mut self, min_y: f32, clear: Clear, raised: f32) -> (f32, Clear) {
+        self.counts.clearing += u64::from(clear != Clear::None);
+        match self.asking {
+            Asking::Raised => (raised, Clear::None),
+            Asking::AsItIs => (min_y, clear),
+        }
+    }
+
     /// A placement is tried on a copy of the page, where the crate knows no limit; the copy is kept if 6 and 7 do not hold.
     fn place(&mut self, Placement { size, min_y, insets, side, clear }: Placement) -> Result<Answer, u8> {
         if self.boxes() == BOXES {
             return Err(5);
         }
+        let (min_y, clear) = self.given(min_y, clear, self.page.raised(min_y, clear));
         let mut trial = self.page.clone();
         take_steps();
         trial.place_floated_box(size, min_y, insets, side, clear);
@@ -142,6 +162,12 @@ impl Judge {
         }
         lines
     }
+
+    /// The account of the page after a tape, as far as it runs.
+    pub fn account_after(mut self, tape: &[u8]) -> Account {
+        self.lines(tape);
+        self.account
+    }
 }
 
 /// The lines of a tape on a fresh page.
@@ -149,11 +175,9 @@ pub fn lines(tape: &[u8]) -> Vec<u8> {
     Judge::default().lines(tape)
 }
 
-/// The account of the page after a tape, as far as it runs.
+/// The account after a tape on a fresh page.
 pub fn account(tape: &[u8]) -> Account {
-    let mut judge = Judge::default();
-    judge.lines(tape);
-    judge.account
+    Judge::default().account_after(tape)
 }
 
 /// As `bulameki_innermost` has to answer.

@@ -26,6 +26,8 @@ pub mod job;
 pub mod judge;
 #[cfg(all(has_taffy, has_probe))]
 pub mod kept;
+#[cfg(has_taffy)]
+pub mod raised;
 pub mod random;
 #[cfg(has_taffy)]
 pub mod rows;

@@ -117,6 +117,34 @@ pub fn record_at(tape: &[u8], at: usize) -> Option<(Record, usize)> {
     Some((record, end))
 }
 
+/// A part of a tape, from a New or the tape's begin to the next New. What begins no record belongs to the last one.
+pub struct Page<'a> {
+    pub bytes: &'a [u8],
+    /// the placements and slot questions on it
+    pub calls: usize,
+    /// whether any of them clears
+    pub clears: bool,
+}
+
+/// The pages of a tape. One that is too long is one page without a call.
+pub fn pages(tape: &[u8]) -> Vec<Page<'_>> {
+    let mut pages = Vec::new();
+    let mut page = Page { bytes: tape, calls: 0, clears: false };
+    let (mut first, mut at) = (0, 0);
+    while let Some((record, next)) = record_at(tape, at).filter(|_| tape.len() <= LONGEST) {
+        if matches!(record, Record::New) && at > first {
+            pages.push(Page { bytes: &tape[first..at], ..page });
+            page = Page { bytes: &tape[at..], calls: 0, clears: false };
+            first = at;
+        }
+        page.calls += usize::from(record.clear().is_some());
+        page.clears |= record.clears();
+        at = next;
+    }
+    pages.push(page);
+    pages
+}
+
 /// The records of a tape, and the bytes from the first that begins none.
 pub fn records(tape: &[u8]) -> (Vec<Record>, &[u8]) {
     let mut all = Vec::new();
@@ -138,6 +166,19 @@ pub fn bytes(records: &[Record]) -> Vec<u8> {
 }
 
 impl Record {
+    /// The clear code of a placement or a slot question.
+    fn clear(&self) -> Option<u8> {
+        match *self {
+            Record::Place { clear, .. } | Record::Content { clear, .. } | Record::Bfc { clear, .. } => Some(clear),
+            _ => None,
+        }
+    }
+
+    /// Whether it is a placement or a slot question that clears, refused or not; an unknown code clears nothing.
+    pub fn clears(&self) -> bool {
+        matches!(self.clear(), Some(1..=3))
+    }
+
     pub fn write(&self, to: &mut Vec<u8>) {
         fn numbers(to: &mut Vec<u8>, of: &[f32]) {
             for number in of {

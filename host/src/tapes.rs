@@ -26,29 +26,35 @@ fn boxes(clears: &[u8], insets: &[[f32; 2]], sizes: &[[f32; 2]], min_ys: &[f32])
     all
 }
 
-/// A page for each last box behind the same first ones, each asked twice, all on one tape.
-fn pages(first: &[Record], last: &[Record]) -> Vec<u8> {
+/// A page for each last box behind the same first ones, each asked twice, all on one tape; the second question has this clear.
+fn pages(first: &[Record], last: &[Record], clear: u8) -> Vec<u8> {
     let content = Record::Content { min_y: 4.0, insets: [5.0, 0.0], clear: 0, after: NONE };
     let margins = [-3.0, 8.0];
-    let bfc = Record::Bfc { min_y: 0.0, insets: [0.0, 5.0], margins, direction: 0, clear: 1, after: NONE };
+    let bfc = Record::Bfc { min_y: 0.0, insets: [0.0, 5.0], margins, direction: 0, clear, after: NONE };
     let page = |last: &Record| [&[Record::New, Record::Width(100.0)], first, &[*last, content, bfc]].concat();
     bytes(&last.iter().flat_map(page).collect::<Vec<Record>>())
 }
 
-/// Every page of two boxes over a small grid, and every page of three over a smaller one.
+/// Every page of two of these boxes, and of three of those.
+fn pages_of(two: Vec<Record>, three: Vec<Record>, clear: u8) -> impl Iterator<Item = Vec<u8>> {
+    let pairs = three.clone().into_iter().flat_map({
+        let three = three.clone();
+        move |first| three.clone().into_iter().map(move |second| [first, second])
+    });
+    let two = two.clone().into_iter().map(move |first| pages(&[first], &two, clear));
+    two.chain(pairs.map(move |pair| pages(&pair, &three, clear)))
+}
+
+/// Every page of two boxes over a small grid, and every page of three over a smaller one, asked by a question that clears; then those of
+/// them on which no box clears, asked by none that does.
 pub fn short_pages() -> impl Iterator<Item = Vec<u8>> {
     let mut sizes = Vec::new();
     for width in [0.0, 10.0, 60.0, 100.0] {
         sizes.extend([0.0, 10.0, 30.0].map(|height| [width, height]));
     }
-    let many = boxes(&[0, 1, 2, 3], &[[0.0, 0.0], [0.0, 60.0], [30.0, 0.0]], &sizes, &[0.0, 5.0]);
-    let few = boxes(&[0, 1, 3], &[[0.0, 0.0], [0.0, 60.0]], &[[10.0, 30.0], [60.0, 10.0], [50.0, 0.0]], &[0.0]);
-    let two = many.clone().into_iter().map(move |first| pages(&[first], &many));
-    let pairs = few.clone().into_iter().flat_map({
-        let few = few.clone();
-        move |first| few.clone().into_iter().map(move |second| [first, second])
-    });
-    two.chain(pairs.map(move |pair| pages(&pair, &few)))
+    let many = |clears| boxes(clears, &[[0.0, 0.0], [0.0, 60.0], [30.0, 0.0]], &sizes, &[0.0, 5.0]);
+    let few = |clears| boxes(clears, &[[0.0, 0.0], [0.0, 60.0]], &[[10.0, 30.0], [60.0, 10.0], [50.0, 0.0]], &[0.0]);
+    pages_of(many(&[0, 1, 2, 3]), few(&[0, 1, 3]), 1).chain(pages_of(many(&[0]), few(&[0]), 0))
 }
 
 /// The numbers that a random page is made of.
@@ -347,13 +353,13 @@ pub fn troubled_pages() -> Vec<Vec<Record>> {
     ]
 }
 
-/// A record's body as its fields, each with the values that it takes in a test of the refusals: the first is in order.
-fn values(field: Field) -> Vec<Vec<u8>> {
+/// A record's body as its fields, each with the values that it takes in a test of the refusals: the first is in order, for a clear this one.
+fn values(field: Field, clear: u8) -> Vec<Vec<u8>> {
     let codes = |known: u8| vec![vec![0], vec![known], vec![255]];
     let numbers = |of: &[f32]| of.iter().map(|x| x.to_le_bytes().to_vec()).collect();
     match field {
         Field::Side | Field::Direction => codes(2),
-        Field::Clear => vec![vec![1], vec![4], vec![255]],
+        Field::Clear => vec![vec![clear], vec![4], vec![255]],
         Field::Mode => codes(3),
         Field::Length => {
             numbers(&[65_536.0, f32::NAN, f32::INFINITY, f32::NEG_INFINITY, 65_536.01, -1.0e-45, f32::MAX])
@@ -363,12 +369,12 @@ fn values(field: Field) -> Vec<Vec<u8>> {
     }
 }
 
-/// On a page, every record with every one and every two of its fields at fault: the order of the refusals.
-pub fn faults(page: &[Record]) -> Vec<Vec<u8>> {
+/// On a page, every record with every one and every two of its fields at fault, and with this clear elsewhere: the order of the refusals.
+pub fn faults(page: &[Record], clear: u8) -> Vec<Vec<u8>> {
     let mut tapes = Vec::new();
     for (kind, body) in BODIES.iter().enumerate().skip(1) {
         let mut tape = bytes(page);
-        let values: Vec<Vec<Vec<u8>>> = body.iter().map(|field| values(*field)).collect();
+        let values: Vec<Vec<Vec<u8>>> = body.iter().map(|field| values(*field, clear)).collect();
         let mut write = |chosen: &[(usize, usize)]| {
             tape.push(kind as u8);
             for (place, choices) in values.iter().enumerate() {

@@ -1,8 +1,11 @@
-//! The archive beside the crate: every line of every tape, the whole page by asking, and the boxes' numbers in its bands. HOST_TAPES=N runs N random tapes, HOST_SEED=N others.
+//! The archive beside the crate: every line of every tape, the whole page by asking, and the boxes' numbers in its bands. In one run the crate
+//! is as it is, on the pages on which no call clears; in the other it is asked without clear, on the others. HOST_TAPES=N runs N random
+//! tapes, HOST_SEED=N others.
 #![cfg(has_taffy)]
 
 use host::archive;
 use host::driver::{Driver, Found};
+use host::raised::Asking;
 use host::random::Random;
 use host::tape::{self, bytes, Record};
 use host::tapes;
@@ -17,7 +20,8 @@ fn from_environment(name: &str) -> Option<u64> {
 
 /// The tapes that are the same in every run.
 fn fixed(driver: &mut Driver) -> Result<(), Found> {
-    let faults = tapes::troubled_pages().into_iter().flat_map(|page| tapes::faults(&page));
+    let troubled = tapes::troubled_pages();
+    let faults = [0, 1].into_iter().flat_map(|clear| troubled.iter().flat_map(move |page| tapes::faults(page, clear)));
     for tape in tapes::short_pages().chain(tapes::longest()).chain(faults) {
         driver.tape(&tape)?;
     }
@@ -52,23 +56,38 @@ fn random(driver: &mut Driver, random: &mut Random, count: u64) -> Result<(), Fo
     Ok(())
 }
 
-#[test]
-fn archive_and_crate_agree() {
+/// The run of the pages for which the crate is asked so.
+fn run(name: &str, asking: Asking) -> Driver {
     let seed = from_environment("HOST_SEED").unwrap_or(1);
     let count = from_environment("HOST_TAPES").unwrap_or(TAPES);
     let started = Instant::now();
-    let mut driver = Driver::new(archive::panel(), archive::innermost());
+    let mut driver = Driver::new(archive::panel(), archive::innermost(), asking);
     let outcome = fixed(&mut driver).and_then(|()| random(&mut driver, &mut Random(seed), count));
     if let Err(found) = outcome {
         let text = tape::text(&found.tape);
         let cut: String = text.lines().take(40).map(|line| format!("{line}\n")).collect();
-        panic!("seed {seed}: archive and crate differ on this tape\n\n{cut}\n{}", found.report);
+        panic!("{name}, seed {seed}: archive and crate differ on this tape\n\n{cut}\n{}", found.report);
     }
-    host::say(&format!("seed {seed}: {}, {:.1} s", driver.summary(), started.elapsed().as_secs_f64()));
+    host::say(&format!("{name}, seed {seed}: {}, {:.1} s", driver.summary(), started.elapsed().as_secs_f64()));
     if count >= TAPES {
         let counts = driver.counts;
         assert!(counts.placements >= 1_000_000 && counts.questions >= 1_000_000, "{}", driver.summary());
         assert!(driver.touched >= 200_000, "{}", driver.summary());
         assert!((1..=8).chain([13]).all(|number| counts.refusals[number] > 0), "{}", driver.summary());
     }
+    driver
+}
+
+/// Every page on which any call clears is left out.
+#[test]
+fn the_crate_as_it_is() {
+    let driver = run("the crate as it is", Asking::AsItIs);
+    assert_eq!(driver.counts.clearing, 0, "the crate was asked to clear");
+}
+
+/// The pages left out there, by the crate asked without clear at the raised min_y.
+#[test]
+fn clearing() {
+    let driver = run("clearing", Asking::Raised);
+    assert!(driver.counts.clearing >= 500_000 && driver.otherwise >= 10_000, "{}", driver.summary());
 }

@@ -61,7 +61,7 @@ fn marked_examples() {
     let three = [plain(LEFT, 10.0, 10.0), plain(RIGHT, 10.0, 30.0), clearing];
     page(&three[..1], &[[NONE, NONE], [0, NONE]]);
     page(&three[..2], &[[NONE, NONE], [0, 1], [NONE, 1]]);
-    page(&three, &[[NONE, NONE], [0, 1], [NONE, 1], [2, NONE]]);
+    page(&three, &[[NONE, NONE], [0, 1], [2, 1], [NONE, 1]]);
     page(&[plain(LEFT, 100.0, 10.0), plain(LEFT, 50.0, 0.0)], &[[NONE, NONE], [0, NONE]]);
     let five = [
         plain(LEFT, 10.0, 30.0),

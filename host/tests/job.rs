@@ -13,7 +13,7 @@ fn job_and_judge_agree() {
     let mut random = Random(7);
     let kinds = [tapes::on_a_grid, tapes::wild, tapes::deep, tapes::many_bands, tapes::calculators, tapes::mixed];
     let random = (0..6_000).flat_map(|number| [bytes(&kinds[number % 6](&mut random)), tapes::any_bytes(&mut random)]);
-    let troubled = tapes::troubled_pages().into_iter().flat_map(|page| tapes::faults(&page));
+    let troubled = tapes::troubled_pages().into_iter().flat_map(|page| tapes::faults(&page, 1));
     let mut counts = Counts::default();
     for tape in troubled.chain(tapes::longest()).chain(random) {
         let mut judge = Judge::default();

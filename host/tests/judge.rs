@@ -3,7 +3,8 @@
 
 use host::archive::{Innermost, Runner, NO_BOX};
 use host::driver::Driver;
-use host::judge;
+use host::judge::{self, Judge};
+use host::raised::Asking;
 use host::random::Random;
 use host::tape::{self, bytes, Record, NONE};
 use host::tapes::{self, plain};
@@ -60,7 +61,7 @@ fn twelve_examples() {
     tape.push(plain(RIGHT, 10.0, 30.0));
     assert_eq!(last(&tape), placed(90.0, 0.0, 1), "example 2");
     tape.push(clearing(LEFT, 10.0, 5.0, 1));
-    assert_eq!(last(&tape), placed(0.0, 30.0, 0), "example 3");
+    assert_eq!(last(&tape), placed(0.0, 10.0, 0), "example 3");
 
     tape = vec![Width(100.0), plain(LEFT, 100.0, 10.0), plain(LEFT, 50.0, 0.0)];
     assert_eq!(last(&tape), placed(0.0, 0.0, 1), "example 4");
@@ -202,19 +203,63 @@ result
     assert_eq!(tape::text(&bytes(&tape)), expected);
 }
 
-/// The judge as an archive, with its lines changed by `wrong`.
-fn answer(tape: &[u8], room: &mut [u8], wrong: fn(String) -> String) -> i64 {
-    let lines = wrong(String::from_utf8(judge::lines(tape)).unwrap());
+/// Where a tape is cut, and which of its pages clear: a refused call does, an unknown code and a calculator don't.
+#[test]
+fn pages_of_a_tape() {
+    let question =
+        |clear| Record::Bfc { min_y: 0.0, insets: [0.0; 2], margins: [0.0; 2], direction: 9, clear, after: 0 };
+    let add = Record::Add { width: 1.0, side: 0, clear: 3 };
+    let pages: [(&[Record], usize, bool); 7] = [
+        (&[Width(9.0), plain(LEFT, 1.0, 1.0), clearing(LEFT, 1.0, -1.0, 3)], 2, true),
+        (&[New], 0, false),
+        (&[New, content(0.0, 2), content(0.0, 0)], 2, true),
+        (&[New, add, Total], 0, false),
+        (&[New, clearing(RIGHT, 1.0, 1.0, 4), content(0.0, 255), question(0)], 3, false),
+        (&[New, plain(LEFT, 1.0, 1.0), question(1)], 2, true),
+        (&[New, content(0.0, 0)], 1, false),
+    ];
+    let mut tape = pages.map(|(records, _, _)| bytes(records)).concat();
+    tape.extend([9, 0, 2, 0, 1]);
+    let cut = tape::pages(&tape);
+    assert_eq!(cut.iter().map(|page| page.bytes).collect::<Vec<_>>().concat(), tape);
+    assert_eq!(cut.len(), pages.len());
+    for (page, (records, calls, clears)) in cut.iter().zip(pages) {
+        assert!(page.bytes.starts_with(&bytes(records)));
+        assert_eq!((page.calls, page.clears), (calls, clears), "{records:?}");
+    }
+    // nothing at all is a page, and so is a tape that is not read
+    let too_long = bytes(&[New, content(0.0, 1)]).repeat(4_000);
+    for tape in [&[][..], &too_long, &too_long[..5]] {
+        let pages = tape::pages(tape);
+        assert!(pages.len() == 1 && pages[0].bytes == tape && pages[0].calls == 0 && !pages[0].clears);
+    }
+}
+
+/// Writes lines as an archive does.
+fn written(lines: &[u8], room: &mut [u8]) -> i64 {
     if lines.len() > room.len() {
         return -13;
     }
-    room[..lines.len()].copy_from_slice(lines.as_bytes());
+    room[..lines.len()].copy_from_slice(lines);
     lines.len() as i64
 }
 
-/// The smallest tape on which the driver finds the archive wrong, as text.
+/// The judge as an archive, with its lines changed by `wrong`.
+fn answer(tape: &[u8], room: &mut [u8], wrong: fn(String) -> String) -> i64 {
+    written(wrong(String::from_utf8(judge::lines(tape)).unwrap()).as_bytes(), room)
+}
+
+/// The smallest tape on which the driver finds the archive wrong, as text: the same on pages of either run.
 fn found(run: Runner) -> Option<String> {
-    found_by(Driver::new(Some(run), None))
+    found_alike(Some(run), None)
+}
+
+fn found_alike(run: Option<Runner>, innermost: Option<Innermost>) -> Option<String> {
+    let [as_it_is, raised] =
+        [Asking::AsItIs, Asking::Raised].map(|asking| found_by(Driver::new(run, innermost, asking)));
+    let count = |text: &Option<String>| text.as_ref().map(|text| text.lines().count());
+    assert_eq!(count(&as_it_is), count(&raised), "{as_it_is:?}, {raised:?}");
+    raised
 }
 
 fn found_by(mut driver: Driver) -> Option<String> {
@@ -261,7 +306,7 @@ fn a_fault_is_found_and_shrunk() {
 
 #[test]
 fn another_box_is_found_and_shrunk() {
-    let found = |innermost: Innermost| found_by(Driver::new(None, Some(innermost)));
+    let found = |innermost: Innermost| found_alike(None, Some(innermost));
     assert_eq!(found(judge::innermost), None);
     let records = |innermost: Innermost| found(innermost).unwrap().lines().count();
     // the other side's box; the one in the band below; no box for the second; a box below all bands
@@ -277,4 +322,16 @@ fn another_box_is_found_and_shrunk() {
         number => number,
     };
     assert_eq!(records(below), 0);
+}
+
+/// An archive that clears by the crate's rule is found on the pages that clear, and answers all others right.
+#[test]
+fn clearing_by_band_numbers_is_found() {
+    let run: Runner = |tape, room| written(&Judge::asking(Asking::AsItIs).lines(tape), room);
+    let innermost: Innermost = |tape, band, side| Judge::asking(Asking::AsItIs).account_after(tape).told(band, side);
+    for (run, innermost) in [(Some(run), None), (None, Some(innermost))] {
+        assert_eq!(found_by(Driver::new(run, innermost, Asking::AsItIs)), None);
+        let text = found_by(Driver::new(run, innermost, Asking::Raised)).unwrap();
+        assert!(text.lines().count() <= 3 && text.contains("clear"), "{text}");
+    }
 }

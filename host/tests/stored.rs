@@ -1,4 +1,5 @@
-//! What the repository stores of the crate's answers, held to the crate where it is at hand and to the archive where it is linked.
+//! What the repository stores of the crate's answers, held to the crate where it is at hand and to the archive where it is linked. A call
+//! that clears is asked of the crate without clear, at the raised min_y.
 
 use host::archive;
 use host::stored;
@@ -80,6 +81,11 @@ fn stored_file_is_the_sample() {
     for number in 1..=8 {
         assert!(starts(&format!("R {number}")) > 20, "{} refusals {number}", starts(&format!("R {number}")));
     }
+    // tapes with a page that clears, and those that the crate as it is answers otherwise
+    let clearing = sample.iter().filter(|(tape, _)| host::tape::pages(tape).iter().any(|page| page.clears)).count();
+    let as_it_is = |tape: &[u8]| host::judge::Judge::asking(host::raised::Asking::AsItIs).lines(tape);
+    let otherwise = sample.iter().filter(|(tape, lines)| as_it_is(tape) != *lines).count();
+    assert!(clearing > 20 && otherwise > 20, "{clearing} tapes clear, {otherwise} are answered otherwise");
     if let Ok(there) = std::fs::read(root().join("crates/replay/stdin")) {
         assert!(there == file, "crates/replay/stdin is another file than `answers` writes");
     }

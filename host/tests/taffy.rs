@@ -1,4 +1,5 @@
-//! The crate itself, through the shims: the positions and steps of document 01's examples, and the counted copy against the unchanged one.
+//! The crate itself, through the shims: the positions and steps of document 01's examples, as it is and asked for a call that clears as the
+//! judge asks it, and the counted copy against the unchanged one.
 #![cfg(has_taffy)]
 
 use host::random::Random;
@@ -42,7 +43,27 @@ fn examples_1_to_3() {
     assert_eq!(page.plain(LEFT, 10.0, 10.0), (0.0, 0.0, 0));
     assert_eq!(page.0.band_count(), 2);
     assert_eq!(page.plain(RIGHT, 10.0, 30.0), (90.0, 0.0, 1));
-    assert_eq!(page.place(LEFT, [10.0, 5.0], 0.0, [0.0, 0.0], Clear::Left), (0.0, 30.0, 0));
+    let mut as_it_is = Page(page.0.clone());
+    assert_eq!(as_it_is.place(LEFT, [10.0, 5.0], 0.0, [0.0, 0.0], Clear::Left), (0.0, 30.0, 0));
+    let min_y = page.0.raised(0.0, Clear::Left);
+    assert_eq!(page.place(LEFT, [10.0, 5.0], min_y, [0.0, 0.0], Clear::None), (0.0, 10.0, 0));
+}
+
+/// To no bottom, to that of a side, to the lower one, and not to one above; for a slot only where a band ends below min_y.
+#[test]
+fn raised() {
+    let mut page = Page::fresh();
+    let all = [Clear::None, Clear::Left, Clear::Right, Clear::Both];
+    assert_eq!(all.map(|clear| page.0.raised(-7.0, clear)), [-7.0; 4]);
+    page.plain(LEFT, 10.0, 10.0);
+    assert_eq!(all.map(|clear| page.0.raised(0.0, clear)), [0.0, 10.0, 0.0, 10.0]);
+    page.plain(RIGHT, 10.0, 30.0);
+    page.place(RIGHT, [10.0, 0.0], 50.0, [0.0, 0.0], Clear::None);
+    assert_eq!(all.map(|clear| page.0.raised(0.0, clear)), [0.0, 10.0, 50.0, 50.0]);
+    assert_eq!(all.map(|clear| page.0.raised(20.0, clear)), [20.0, 20.0, 50.0, 50.0]);
+    assert_eq!(all.map(|clear| page.0.raised_for_slot(0.0, clear)), [0.0, 10.0, 50.0, 50.0]);
+    assert_eq!(all.map(|clear| page.0.raised_for_slot(29.0, clear)), [29.0, 29.0, 50.0, 50.0]);
+    assert_eq!(all.map(|clear| page.0.raised_for_slot(30.0, clear)), [30.0; 4]);
 }
 
 #[test]
@@ -69,8 +90,10 @@ fn examples_5_to_8() {
 fn example_9() {
     let mut page = Page::fresh();
     page.place(LEFT, [50.0, 0.0], 20.0, [0.0, 0.0], Clear::None);
-    let slot = page.0.find_content_slot(0.0, [0.0, 0.0], Clear::Left, None);
-    assert_eq!((slot.segment_id, slot.y), (None, 0.0));
+    for (min_y, clear) in [(0.0, Clear::Left), (page.0.raised_for_slot(0.0, Clear::Left), Clear::None)] {
+        let slot = page.0.find_content_slot(min_y, [0.0, 0.0], clear, None);
+        assert_eq!((slot.segment_id, slot.y), (None, 0.0));
+    }
 }
 
 #[test]
@@ -83,8 +106,8 @@ fn example_10() {
     }
 }
 
-/// What Debug prints of the page, put together from what the counted copy hands out.
-fn tail_of_debug(page: &float_counted::FloatContext) -> String {
+/// What Debug prints of the page's width and bands, put together from what the counted copy hands out.
+fn parts_of_debug(page: &float_counted::FloatContext) -> [String; 2] {
     let segments: Vec<String> = page
         .bands()
         .iter()
@@ -92,16 +115,10 @@ fn tail_of_debug(page: &float_counted::FloatContext) -> String {
             format!("Segment {{ y: {:?}..{:?}, insets: {:?}, has_float: {:?} }}", b.start, b.end, b.insets, b.marks)
         })
         .collect();
-    format!(
-        "segments: [{}], last_placed_floats: {:?}, clear_bottoms: {:?}, float_ceiling: {:?} }}",
-        segments.join(", "),
-        page.kept(),
-        page.bottoms(),
-        page.ceiling()
-    )
+    [format!("{{ available_width: {:?},", page.width()), format!(" segments: [{}],", segments.join(", "))]
 }
 
-/// Both copies answer every call alike, and the unchanged one prints the page that the counted one hands out.
+/// Both copies answer every call alike and print the same page, and the counted one hands out its width and bands.
 #[test]
 fn counted_copy_is_the_crate() {
     let mut random = Random(3);
@@ -135,11 +152,8 @@ fn counted_copy_is_the_crate() {
                 )
             );
             let printed = format!("{plain:?}");
-            assert!(printed.ends_with(&tail_of_debug(&counted)), "{printed}\n{}", tail_of_debug(&counted));
-            assert!(
-                printed.starts_with(&format!("FloatContext {{ available_width: {:?},", counted.width())),
-                "{printed}"
-            );
+            assert_eq!(printed, format!("{counted:?}"));
+            assert!(parts_of_debug(&counted).iter().all(|part| printed.contains(part)), "{printed}");
         }
     }
 }

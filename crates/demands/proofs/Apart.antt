@@ -25,7 +25,7 @@ use Rattle.float.specs.Numbers.{inReach}
 use Rattle.float.specs.Bands.{sameSide, other, lead, hasFloat, none, markAll}
 use Rattle.float.specs.Page.{Page, maxBands}
 use Rattle.float.specs.Fit.{placedAt}
-use Rattle.float.specs.Place.{Call, Result, Made, make, recorded, counted, askOf, firstOf, xOf, near, high, flat, put}
+use Rattle.float.specs.Place.{Call, Result, Made, make, recorded, counted, askOf, firstAllowed, xOf, near, high, flat, put}
 use Rattle.demands.specs.Runs.{Each, Pairs, Accepted, noted, sideIn, containingTrail, bottom}
 use Rattle.demands.proofs.Laws.{k, B, Val, Ins, zero-k, ins-zero, ins-val, sum-ins}
 use Rattle.demands.proofs.Chain.{chain-mark, length-mark, mark-in, mark-float, mark-start, mark-end}
@@ -100,7 +100,7 @@ counted64 n g a i y e iv w d bt cl qy qb bs b ss s os o = record {
 }
 
 -- ---- a placement
-module _ (p : Page) (g : List Accepted) (c : Call) (v : Inv64 p g) (q : Ask64 (askOf p c)) (y0 : Float) (s : Spot) (f : Found (p .bands) (askOf p c) (firstOf p) y0 (count64 (p .bands) (v .inv .chain) (v .bands)) s) (r : T (le (askOf p c .«cb_lead») (s .inset))) where
+module _ (p : Page) (g : List Accepted) (c : Call) (v : Inv64 p g) (q : Ask64 (askOf p c)) (y0 : Float) (s : Spot) (f : Found (p .bands) (askOf p c) (firstAllowed p) y0 (count64 (p .bands) (v .inv .chain) (v .bands)) s) (r : T (le (askOf p c .«cb_lead») (s .inset))) where
   abbrev ask : Ask
   ask = askOf p c
 
@@ -130,12 +130,12 @@ module _ (p : Page) (g : List Accepted) (c : Call) (v : Inv64 p g) (q : Ask64 (a
   Shared b = (s .start < length (p .bands)) × (B < k (add binary32 (b .inset) (b .call .width))) × ((j : ℕ) × (s .start ≤ j) × (j ≤ s .end) × (j < length (p .bands)) × (k (add binary32 (b .inset) (b .call .width)) ≤ k (lead (sideIn b) (getD (p .bands) j none))))
 
   shared : (b : Accepted) → Box64 b → Stands (p .bands) b → B < k (b .call .width) → (t : Float) → Num binary32 t → Inside b t → Inside (entry (M .y)) t → Shared b
-  shared b d st o t n x z = go (beside ask q (p .bands) (v .inv .chain) (v .bands) (firstOf p) y0 s f t n (z .0) (z .1))
+  shared b d st o t n x z = go (beside ask q (p .bands) (v .inv .chain) (v .bands) (firstAllowed p) y0 s f t n (z .0) (z .1))
     where
       up : B < k (add binary32 (b .inset) (b .call .width))
       up = omega (arith, sum-exact (d .inset) (d .width), d .inset' .low)
 
-      go : Met ask q (p .bands) (v .inv .chain) (v .bands) (firstOf p) y0 s f t → Shared b
+      go : Met ask q (p .bands) (v .inv .chain) (v .bands) (firstAllowed p) y0 s f t → Shared b
       go (inl e) = absurd (not-suc-le-zero {n = 0} (omega (arith, up, st t n x .0, ap (λ (z : Segment). k (lead (sideIn b) z)) e, ap k (nothing-lead (sideIn b)), zero-k)))
       go (inr e) = let j = e .1 in (e .0, up, (j .0, j .1, j .2, j .3, omega (arith, st t n x .0, ap (λ (z : Segment). k (lead (sideIn b) z)) (j .4))))
 
@@ -176,13 +176,13 @@ module _ (p : Page) (g : List Accepted) (c : Call) (v : Inv64 p g) (q : Ask64 (a
   abbrev Deep : Type 0
   Deep = s .end < length (p .bands) → k (add binary32 (s .y) (c .height)) ≤ k (getD (p .bands) (s .end) none .end)
 
-  stands-new : MadeOk (p .bands) ask (firstOf p) (s .inset) Deep M → Ins (add binary32 (s .inset) (c .width)) → Stands (recorded p ask (s .inset) M .bands) (entry (M .y))
+  stands-new : MadeOk (p .bands) ask (firstAllowed p) (s .inset) Deep M → Ins (add binary32 (s .inset) (c .width)) → Stands (recorded p ask (s .inset) M .bands) (entry (M .y))
   stands-new o iv t n x =
       let r = ask .side in
       let e = add binary32 (s .inset) (c .width) in
       let num = length (p .boxes) in
       let l = markAll r e num (M .bands) (M .start) (M .end) in
-      let d = deep ask q (p .bands) (v .inv .chain) (v .bands) (firstOf p) y0 s f in
+      let d = deep ask q (p .bands) (v .inv .chain) (v .bands) (firstAllowed p) y0 s f in
       let w = at-band (inf true) l t (M .start) (M .end) (chain-mark r e num (inf true) (M .bands) (M .start) (M .end) iv (o .chain)) n
       (omega (arith, ap k (mark-start r e num (M .bands) (M .start) (M .end) (M .start)), o .top, x .0))
       (omega (arith, ap k (mark-end r e num (M .bands) (M .start) (M .end) (M .end)), o .bottom (λ h. d (omega (arith, f .order)) h), x .1))
@@ -228,8 +228,8 @@ module _ (p : Page) (g : List Accepted) (c : Call) (v : Inv64 p g) (q : Ask64 (a
       edge : (y : Float) → T (near ask (s .inset) y) → Q (add binary32 (s .inset) (c .width))
       edge y u = q-sum (f .inset-ok) (q .width) (ins-val (f .inset)) (q .asked .width) (and-r (inReach (add binary32 y (c .height))) (inReach (add binary32 (s .inset) (c .width))) u)
 
-      made : (Val (M .y) × (k (s .y) ≤ k (M .y))) × (T (inReach (add binary32 (M .y) (c .height))) → MadeOk (p .bands) ask (firstOf p) (s .inset) Deep M)
-      made = make-ok (p .bands) ask (firstOf p) y0 s (v .inv .chain) (q .asked) (v .inv .falls (ask .side)) (v .inv .first) (count64 (p .bands) (v .inv .chain) (v .bands)) f (le→key (q .asked .cbLead .num) (f .inset .num) r)
+      made : (Val (M .y) × (k (s .y) ≤ k (M .y))) × (T (inReach (add binary32 (M .y) (c .height))) → MadeOk (p .bands) ask (firstAllowed p) (s .inset) Deep M)
+      made = make-ok (p .bands) ask (firstAllowed p) y0 s (v .inv .chain) (q .asked) (v .inv .falls (ask .side)) (v .inv .first) (count64 (p .bands) (v .inv .chain) (v .bands)) f (le→key (q .asked .cbLead .num) (f .inset .num) r)
 
       empty : (t' : Float) → T (eq (c .height) zero+) → Inside (entry (s .y)) t' → ⊥
       empty t' t i = omega (arith, i .0, i .1, sum-exact (f .y-ok) (q .height), eq→key (q .asked .height .num) (ins-zero .num) t, zero-k)

@@ -2,6 +2,7 @@
 use mathlib.Core.Path.{_≡_, refl, sym, ap, _∙_, subst}
 use Prim.Native.Nat.{ℕ, zero, suc, _≤_, _<_}
 use native.Mathlib.Nat.{le-of-suc-le-suc, not-suc-le-zero}
+use native.Mathlib.Decide.{decLe}
 use native.Mathlib.Omega.{arith}
 use mathlib.Core.Bool.{true}
 use mathlib.Core.List.{List, [], _∷_, _++_}
@@ -41,6 +42,15 @@ last-has : (P : Float → Type 0) → ((b : Segment) → Sound b → P (b .end))
 unfolding lastEnd
 last-has P f x [] t c = t
 last-has P f x (b ∷ bs) t c = last-has P f (b .end) bs (f b (c .1)) (c .2)
+
+-- a band ends at or above where a later one starts
+pub chain-under : (x : Float) (l : List Segment) (i j : ℕ) → Chain x l → i < j → j < length l → k (getD l i none .end) ≤ k (getD l j none .start)
+chain-under x l i zero c h u = absurd (not-suc-le-zero h)
+chain-under x l i (suc j) c h u = go (decLe j i) (λ m. chain-under x l i j c m (omega arith))
+  where
+    go : Dec (j ≤ i) → (i < j → k (getD l i none .end) ≤ k (getD l j none .start)) → k (getD l i none .end) ≤ k (getD l (suc j) none .start)
+    go (yes d) r = let e : i ≡ j = omega arith in omega (arith, ap k (chain-next x l j c u), ap (λ (n : ℕ). k (getD l n none .end)) e)
+    go (no d) r = omega (arith, ap k (chain-next x l j c u), chain-at x l j c (omega arith) .order, r (omega arith))
 
 pub chain-last : (x : Float) (l : List Segment) → Top x → Chain x l → Top (lastEnd x l)
 chain-last = last-has Top (λ b s. val-top (s .end))

@@ -22,7 +22,7 @@ use Rattle.float.specs.declared.slot.Sought.{Sought}
 use Rattle.float.specs.Numbers.{Given, size, offset, plusZero}
 use Rattle.float.specs.Bands.{lead, none, firstBelow}
 use Rattle.float.specs.Page.{Page}
-use Rattle.float.specs.Clear.{raiseTo, cleared, clearedPast}
+use Rattle.float.specs.Clear.{raiseTo, cleared}
 use Rattle.float.specs.Slot.{active, seek, contentSlot, content}
 use Rattle.demands.specs.Runs.{F32, insetAt, contentAt, Between}
 use Rattle.demands.proofs.Laws.{k, Val, ins-zero, zero-k}
@@ -60,7 +60,7 @@ module _ (p : Page) (c : Chain (inf true) (p .bands)) (y : Float) (v : Val y) wh
       ∙ sym (at-is (inf true) l y i s c (v .num) h (first-start (inf true) l y c (v .num) (omega arith) h) (lt→key (v .num) (b .end .num) (first-end l 0 y h)))
 
   slot-told : Between p y (contentSlot p (both-sides zero+) (seek p Clear.None BandNumber.None y))
-  unfolding contentSlot seek active cleared clearedPast raiseTo
+  unfolding contentSlot seek active cleared raiseTo
   slot-told =
       both P (ltb i (length l))
       (λ t. both P (ltb i (length l)) (λ u. there (ltb→lt i (length l) u)) (λ u. absurd (T-not (ltb i (length l)) u t)))

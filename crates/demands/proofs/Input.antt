@@ -52,7 +52,7 @@ abbrev pub Known : Given → Type 0
 Known (size x) = Ins x
 Known (offset x) = Val x
 
-known-one : (g : Given) → F32 (value g) → T (finite (value g)) → T (allowed g) → Known g
+pub known-one : (g : Given) → F32 (value g) → T (finite (value g)) → T (allowed g) → Known g
 unfolding within
 known-one (size x) f t w =
     let n = num-of x f t in
@@ -87,6 +87,11 @@ sizes c t =
   where
     top : (x : Float) → T (allowed (size x)) → T (le x most)
     top x t = and-r (le zero+ x) (le x most) t
+
+-- and its min_y lies within the limits
+pub min-y : (c : Call) → T (allAllowed (numbers c)) → T (within least most (c .minY))
+unfolding allAllowed
+min-y c t = and-l (allowed (offset (c .minY))) _ (and-r (allowed (size (c .height))) _ (and-r (allowed (size (c .width))) _ t))
 
 -- a check's two ways: it refuses with 1, 2 or 3
 pub check-both {ℓ} : {A : Type ℓ} (P : A → Type 0) (b : Bool) (gs : List Given) {x : A} {f : Refusal → A} → (T (allFinite gs) → T (allAllowed gs) → P x) → ((n : Refusal) → numberOf n ≤ 3 → P (f n)) → P (elim (checkOf b gs) [ Check.Passed ↦ x | Check.Refused n ↦ f n ])
@@ -133,7 +138,7 @@ AtMost x (Bottom.At y) = k x ≤ k y
 
 -- what the larger of two keeps, rule 1 and the kept heights keep
 module _ (P : Float → Type 0) (f : (x y : Float) → P x → P y → P (larger x y)) where
-  raise-is : (y : Float) (b : Bottom) → P y → BottomIs P b → P (raiseTo y b)
+  pub raise-is : (y : Float) (b : Bottom) → P y → BottomIs P b → P (raiseTo y b)
   unfolding raiseTo
   raise-is y Bottom.None p q = p
   raise-is y (Bottom.At x) p q = f y x p q
@@ -152,7 +157,7 @@ module _ (P : Float → Type 0) (f : (x y : Float) → P x → P y → P (larger
       (on-either D (a .side) (lower-is (p .leftBottom) _ (h FloatDirection.Left) b) (h FloatDirection.Left))
       (on-either D (a .side) (h FloatDirection.Right) (lower-is (p .rightBottom) _ (h FloatDirection.Right) b))
 
-  cleared-is : (p : Page) → ((r : FloatDirection) → BottomIs P (bottomOn r p)) → (c : Clear) → BottomIs P (cleared p c)
+  pub cleared-is : (p : Page) → ((r : FloatDirection) → BottomIs P (bottomOn r p)) → (c : Clear) → BottomIs P (cleared p c)
   unfolding cleared
   cleared-is p h Clear.None = tt
   cleared-is p h Clear.Left = h FloatDirection.Left

@@ -16,6 +16,7 @@ pub mod Added
 pub mod Lists
 pub mod Whole
 pub mod Numbers
+pub mod Upright
 pub mod Reach
 pub mod Structs
 pub mod Adding
@@ -24,6 +25,7 @@ pub mod Bands64
 pub mod Apart
 pub mod Whole64
 pub mod Content
+pub mod Cleared
 pub mod Reached
 pub mod Edges
 pub mod Said

@@ -1,5 +1,5 @@
 -- The promises over any sequence of calls from a fresh page, and CSS rules 1, 5 and 7. To read them takes the definitions and no other proof.
-use mathlib.Core.Path.{_≡_, refl, sym, subst}
+use mathlib.Core.Path.{_≡_, refl, sym, ap, subst}
 use Prim.Native.Nat.{ℕ, _+_, _≤_, _<_}
 use mathlib.Core.Bool.{true, false, not}
 use mathlib.Core.List.{List, map}
@@ -9,8 +9,10 @@ use lib.ListN.{length, getD}
 use Rattle.f32_laws.specs.Numbers.{zero+}
 use Rattle.float.specs.declared.BandNumber.{BandNumber}
 use Rattle.float.specs.declared.BoxNumber.{BoxNumber}
+use Rattle.float.specs.declared.Clear.{Clear}
 use Rattle.float.specs.declared.ContentAnswer.{ContentAnswer}
 use Rattle.float.specs.declared.ContentSlot.{ContentSlot}
+use Rattle.float.specs.declared.Direction.{Direction}
 use Rattle.float.specs.declared.Done.{Done}
 use Rattle.float.specs.declared.FloatContext.{FloatContext}
 use Rattle.float.specs.declared.FloatDirection.{FloatDirection}
@@ -20,22 +22,25 @@ use Rattle.float.specs.declared.PlaceAnswer.{PlaceAnswer}
 use Rattle.float.specs.declared.Refusal.{Refusal}
 use Rattle.float.specs.declared.Segment.{Segment}
 use Rattle.float.specs.declared.fit.Ask.{Ask}
+use Rattle.float.specs.declared.bfc.BfcInsets.{BfcInsets}
 use Rattle.float.specs.declared.refuse.Check.{Check}
+use Rattle.float.specs.declared.slot.Insets.{Insets}
 use Rattle.float.specs.Numbers.{plusZero, inReach}
 use Rattle.float.specs.Refuse.{sideOf}
-use Rattle.float.specs.Bands.{sameSide, other, lead, hasFloat, boxOn, none}
+use Rattle.float.specs.Bands.{sameSide, other, lead, hasFloat, boxOn, none, firstBelow}
 use Rattle.float.specs.Page.{Page, pageOf, stored}
 use Rattle.float.specs.Calculator.{addOf}
+use Rattle.float.specs.Clear.{raiseTo, cleared}
 use Rattle.float.specs.Fit.{fits}
-use Rattle.float.specs.Place.{Call, cleaned, numbers, inputCheck, askOf, spotOf, place, placedPage, placeOf, withWidth, widthOf, ifDone}
-use Rattle.float.specs.Slot.{innermost, content}
-use Rattle.demands.specs.Runs.{Each, Pairs, Act, box, boxIn, next, run, after, pageIn, bandsIn, Stays, handed, Handed, F32, Whole64, insetAt, NoSmaller, EdgeToEdge, StartSplit, EndSplit, sideIn, containingLead, containingTrail, xFrom, bottom, rightEdge, farInset, LowEnough, present, Names, Holds, StandsAt, ExactSum, contentAt, Between, sized, shareHeight, overlap, fitsExactly, Joins, Page64}
+use Rattle.float.specs.Place.{Call, cleaned, numbers, inputCheck, lowest, firstAllowed, askOf, spotOf, admitted, place, placedPage, held, placeOf, withWidth, widthOf, ifDone}
+use Rattle.float.specs.Slot.{active, seek, innermost, ContentCall, contentCleaned, contentSlot, content, BfcCall, bfcCleaned, bfcSlot, bfc}
+use Rattle.demands.specs.Runs.{Each, Pairs, Act, box, boxIn, next, run, after, pageIn, bandsIn, Stays, handed, Handed, F32, Whole64, insetAt, NoSmaller, EdgeToEdge, StartSplit, EndSplit, sideIn, containingLead, containingTrail, xFrom, bottom, rightEdge, farInset, LowEnough, present, Names, Holds, StandsAt, ExactSum, unclear, contentUnclear, bfcUnclear, Raises, contentAt, Between, sized, shareHeight, overlap, fitsExactly, Joins, Page64}
 use Rattle.demands.proofs.Steps.{StepsTo, place-few}
 use Rattle.demands.proofs.Added.{place-more}
 use Rattle.demands.proofs.Splits.{start-split, end-split}
-use Rattle.demands.proofs.Input.{cleaned-fits}
+use Rattle.demands.proofs.Input.{cleaned-fits, min-y}
 use Rattle.demands.proofs.Lists.{each-map}
-use Rattle.demands.proofs.Whole.{Lies, spot-in, place-ok}
+use Rattle.demands.proofs.Whole.{Lies, spot-in, first-idle, place-ok}
 use Rattle.demands.proofs.Numbers.{Numbered}
 use Rattle.demands.proofs.Reach.{inset-in-reach, flat-not-6}
 use Rattle.demands.proofs.Structs.{page-placed}
@@ -43,7 +48,8 @@ use Rattle.demands.proofs.Exact.{fits-idle}
 use Rattle.demands.proofs.Adding.{LeftAs, add-left}
 use Rattle.demands.proofs.Whole64.{known64, ask64}
 use Rattle.demands.proofs.Content.{Answers, content-told}
-use Rattle.demands.proofs.Reached.{named, reached, grown, reached64}
+use Rattle.demands.proofs.Cleared.{placed-same, content-same, bfc-same, placed-by-rules, content-by-rules, bfc-by-rules}
+use Rattle.demands.proofs.Reached.{named, reached, upright, sunk, grown, reached64}
 use Rattle.demands.proofs.Edges.{exact-edges, seven, apart}
 use Rattle.demands.proofs.Said.{edges, held-inset, no-smaller, told-names, told-unmarked, passed, page64, joins-ins, joins64, taken-in, taken-marked, each-boxed, each-standing, clear-pairs}
 
@@ -146,6 +152,35 @@ innermost-told os = told-names (pageIn (after os)) (after os .accepted) (named o
 -- or none, where the mark is not set or there is no such band
 pub innermost-none : (os : List Act) (i s : ℕ) → innermost (pageIn (after os)) (BandNumber.At i) s ≡ Innermost.Answer BoxNumber.None → hasFloat (sideOf s) (getD (bandsIn (after os)) i none) ≡ false
 innermost-none os = told-unmarked (pageIn (after os)) (after os .accepted) (named os)
+
+-- clearing goes by the cleared bottoms alone (2/14): a placement with any clear is the one without clear at min_y raised to them, same answer, same page
+pub clear-placement : (os : List Act) (c : Call) → Handed F32 os → F32 (c .minY) → Raises (pageIn (after os)) (c .clear) (cleaned c .minY) → placeOf (after os .struct) c ≡ placeOf (after os .struct) (unclear (pageIn (after os)) (cleaned c))
+unfolding placeOf
+clear-placement os c f g r = ap (held (after os .struct)) (placed-same (pageIn (after os)) (after os .accepted) (reached os f) (upright os f) c g r)
+
+-- and so is a question that passes the early answer: some band ends below min_y
+pub clear-content : (os : List Act) (c : ContentCall) → Handed F32 os → F32 (c .minY) → Raises (pageIn (after os)) (c .clear) (contentCleaned c .minY) → active (bandsIn (after os)) (contentCleaned c .minY) ≡ true
+    → content (pageIn (after os)) c ≡ content (pageIn (after os)) (contentUnclear (pageIn (after os)) (contentCleaned c))
+clear-content os c f = content-same (pageIn (after os)) (after os .accepted) (reached os f) (upright os f) c
+
+pub clear-bfc : (os : List Act) (c : BfcCall) → Handed F32 os → F32 (c .minY) → Raises (pageIn (after os)) (c .clear) (bfcCleaned c .minY) → active (bandsIn (after os)) (bfcCleaned c .minY) ≡ true
+    → bfc (pageIn (after os)) c ≡ bfc (pageIn (after os)) (bfcUnclear (pageIn (after os)) (bfcCleaned c))
+clear-bfc os c f = bfc-same (pageIn (after os)) (after os .accepted) (reached os f) (upright os f) c
+
+-- a min_y raised beyond 65,536 could not be handed in: there too the rules after refusals 1 to 3 give the same, of a question on any page
+pub clear-placement-far : (os : List Act) (c : Call) → Handed F32 os → Each F32 (handed (box c)) → inputCheck (cleaned c) ≡ Check.Passed → place (pageIn (after os)) c ≡ admitted (pageIn (after os)) (unclear (pageIn (after os)) (cleaned c))
+clear-placement-far os c f g e = placed-by-rules (pageIn (after os)) (after os .accepted) (reached os f) (upright os f) c (g .1 .1 .0) e (min-y (cleaned c) (passed c g e .1))
+
+pub clear-content-far : (p : Page) (k : Clear) (n : BandNumber) (y : Float) → active (p .bands) y ≡ true → (i : Insets) → contentSlot p i (seek p k n y) ≡ contentSlot p i (seek p Clear.None n (raiseTo y (cleared p k)))
+clear-content-far = content-by-rules
+
+pub clear-bfc-far : (p : Page) (k : Clear) (n : BandNumber) (y : Float) → active (p .bands) y ≡ true → (d : Direction) (i : BfcInsets) → bfcSlot p d i (seek p k n y) ≡ bfcSlot p d i (seek p Clear.None n (raiseTo y (cleared p k)))
+clear-bfc-far = bfc-by-rules
+
+-- rule 2 never decides: the first band from the kept firsts on that ends below min_y, raised by rule 1, is the first of all
+pub firsts-idle : (os : List Act) (c : Call) → Handed F32 os → Each F32 (handed (box c)) → inputCheck (cleaned c) ≡ Check.Passed
+    → firstBelow (bandsIn (after os)) (firstAllowed (pageIn (after os))) (lowest (pageIn (after os)) (cleaned c)) ≡ firstBelow (bandsIn (after os)) 0 (lowest (pageIn (after os)) (cleaned c))
+firsts-idle os c f g e = first-idle (pageIn (after os)) (after os .accepted) (cleaned c) (reached os f) (passed c g e .0) (sunk os f)
 
 -- ---- if every number handed in was whole 64ths
 

@@ -29,7 +29,7 @@ use Rattle.float.specs.Numbers.{most, farthest, inReach, allAllowed}
 use Rattle.float.specs.Refuse.{numberOf, sideOf}
 use Rattle.float.specs.Page.{Page, maxBoxes}
 use Rattle.float.specs.Fit.{passes, placedAt}
-use Rattle.float.specs.Place.{Call, cleaned, numbers, Result, lowest, firstOf, askOf, spotOf, near, flat, put, admitted, checked, place}
+use Rattle.float.specs.Place.{Call, cleaned, numbers, Result, lowest, firstAllowed, askOf, spotOf, near, flat, put, admitted, checked, place}
 use Rattle.demands.specs.Runs.{Each, Accepted, box, handed, F32}
 use Rattle.demands.proofs.Halves.{lead-half}
 use Rattle.demands.proofs.Laws.{k, B, Ins, far-twice, zero-k, ins-zero, ins-val, ins-fin, val-fin, larger-ins, sum-num, farthest-num, or-right}
@@ -95,11 +95,11 @@ module _ (l : List Segment) (a : Ask) (F : ℕ) (y0 : Float) (H : Count l) (p : 
 
 -- ---- on pages that calls reach
 module _ (p : Page) (g : List Accepted) (c : Call) (v : Inv p g) (n : Each Known (numbers c)) (t : T (allAllowed (numbers c))) where
-  found : Found (p .bands) (askOf p c) (firstOf p) (lowest p c) (no-count (p .bands)) (spotOf p c)
+  found : Found (p .bands) (askOf p c) (firstAllowed p) (lowest p c) (no-count (p .bands)) (spotOf p c)
   found = spot-ok p g c v n (no-count (p .bands)) tt tt
 
   pub inset-in-reach : T (inReach (add binary32 (spotOf p c .inset) (c .width)))
-  inset-in-reach = let z = sizes c t in inset-near (p .bands) (askOf p c) (firstOf p) (lowest p c) (no-count (p .bands)) (spotOf p c) (asked p c (v .width) n) (z .0) (z .1 (sideOf (c .side))) found
+  inset-in-reach = let z = sizes c t in inset-near (p .bands) (askOf p c) (firstAllowed p) (lowest p c) (no-count (p .bands)) (spotOf p c) (asked p c (v .width) n) (z .0) (z .1 (sideOf (c .side))) found
 
   -- a height of 0 adds nothing to y
   flat-near : T (eq (c .height) zero+) → T (near (askOf p c) (spotOf p c .inset) (spotOf p c .y))

@@ -7,8 +7,9 @@ use Rattle.float.specs.Place.{Call, cleaned, place, placeOf, setWidth}
 use Rattle.demands.specs.Runs.{Each, Act, newPage, width, box, Accepted, Run, noted, started, next, run, pageIn, bandsIn, Stays, handed, Handed, F32, Whole64}
 use Rattle.demands.proofs.Heights.{Grows, grows-refl, grows-trans}
 use Rattle.demands.proofs.Lists.{each-both, each-of}
-use Rattle.demands.proofs.Whole.{Inv, fresh-inv, place-ok, wide-ok}
+use Rattle.demands.proofs.Whole.{Inv, fresh-inv, place-ok, wide-ok, Sunk, fresh-sunk, wide-sunk}
 use Rattle.demands.proofs.Numbers.{Named, fresh-named, place-named, wide-named}
+use Rattle.demands.proofs.Upright.{Upright, fresh-upright, place-upright, wide-upright}
 use Rattle.demands.proofs.Structs.{page-fresh, page-placed, page-widened}
 use Rattle.demands.proofs.Apart.{Inv64}
 use Rattle.demands.proofs.Whole64.{place64, wide64, fresh64}
@@ -56,6 +57,28 @@ next-grows r (box c) v f s = in-placed (λ q l. Grows (bandsIn r) (q .bands)) r 
 
 pub reached : (os : List Act) → Handed F32 os → In Inv (run started os)
 reached os f = run-keeps (In Inv) (λ o. Each F32 (handed o)) next-inv started os (in-started Inv fresh-inv) f
+
+abbrev Low : Page → List Accepted → Type 0
+Low q g = Inv q g × Sunk q
+
+next-low : (r : Run) (o : Act) → In Low r → Each F32 (handed o) → In Low (next r o)
+next-low r newPage v f = in-started Low (fresh-inv, fresh-sunk)
+next-low r (width w) v f = in-widened Low r w (wide-ok (pageIn r) (r .accepted) w (v .0) (f .0) .0, wide-sunk (pageIn r) w (v .1))
+next-low r (box c) v f = in-placed Low r c (let s = place-ok (pageIn r) (r .accepted) c (v .0) f in (s .inv, s .sunk (v .1)))
+
+pub sunk : (os : List Act) → Handed F32 os → Sunk (pageIn (run started os))
+sunk os f = run-keeps (In Low) (λ o. Each F32 (handed o)) next-low started os (in-started Low (fresh-inv, fresh-sunk)) f .1
+
+abbrev Stood : Page → List Accepted → Type 0
+Stood q g = Upright q
+
+next-upright : (r : Run) (o : Act) → In Stood r → Each F32 (handed o) → In Stood (next r o)
+next-upright r newPage v f = in-started Stood fresh-upright
+next-upright r (width w) v f = in-widened Stood r w (wide-upright (pageIn r) w v)
+next-upright r (box c) v f = in-placed Stood r c (place-upright (pageIn r) c v f)
+
+pub upright : (os : List Act) → Handed F32 os → Upright (pageIn (run started os))
+upright os f = run-keeps (In Stood) (λ o. Each F32 (handed o)) next-upright started os (in-started Stood fresh-upright) f
 
 pub grown : (r : Run) (os : List Act) → In Inv r → Handed F32 os → Each Stays os → In Inv (run r os) × Grows (bandsIn r) (bandsIn (run r os))
 grown r os v f s =

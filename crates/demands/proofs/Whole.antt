@@ -3,12 +3,11 @@ use mathlib.Core.Path.{_≡_, refl, sym, ap, _∙_, subst}
 use mathlib.Core.Logic.{_⊎_, inl, inr}
 use Prim.Native.Nat.{ℕ, _+_, _-_, _≤_, _<_, max}
 use native.Mathlib.Nat.{not-suc-le-zero}
-use native.Mathlib.Decide.{decLe}
 use native.Mathlib.Omega.{arith}
 use mathlib.Core.Bool.{true, _&&_}
 use mathlib.Core.List.{List, [], _∷_, _++_, map, map-append}
-use lib.Dec.{T, ltb, leb, eqb, ltb→lt, leb→le, eqb→eq}
-use lib.Ieee.{Float, inf, binary32, add, le, eq}
+use lib.Dec.{T, ltb, leb, eqb, ltb→lt, leb→le, eqb→eq, not-T}
+use lib.Ieee.{Float, inf, binary32, add, lt, le, eq}
 use lib.Ieee.Fits.{and-l, and-r}
 use lib.ListN.{length, getD, length-append}
 use lib.Seq.{getD-append-seam}
@@ -16,7 +15,6 @@ use Rattle.f32_laws.specs.Numbers.{zero+}
 use Rattle.f32_laws.proofs.Tests.{both}
 use Rattle.f32_laws.proofs.Keys.{le→key, lt→key, key→le}
 use Rattle.float.specs.declared.Bottom.{Bottom}
-use Rattle.float.specs.declared.Clear.{Clear}
 use Rattle.float.specs.declared.Done.{Done}
 use Rattle.float.specs.declared.FloatDirection.{FloatDirection}
 use Rattle.float.specs.declared.PlaceAnswer.{PlaceAnswer}
@@ -26,16 +24,15 @@ use Rattle.float.specs.declared.Segment.{Segment}
 use Rattle.float.specs.declared.fit.Ask.{Ask}
 use Rattle.float.specs.declared.search.Spot.{Spot}
 use Rattle.float.specs.Numbers.{plusZero, inReach, size, allAllowed}
-use Rattle.float.specs.Refuse.{sideOf, clearOf}
+use Rattle.float.specs.Refuse.{sideOf}
 use Rattle.float.specs.Bands.{onSide, other, none, firstBelow}
-use Rattle.float.specs.Page.{Kept, Page, pageOf, freshContext, fresh, noBox, maxBands, maxBoxes}
-use Rattle.float.specs.Clear.{clearedPast}
-use Rattle.float.specs.Place.{Call, cleaned, numbers, Result, lowest, firstOf, firstAllowed, askOf, spotOf, Made, make, keep, recorded, boxOf, counted, xOf, refuse, near, high, flat, put, admitted, checked, place, widthCheck, withWidth, ifDone, setWidth}
+use Rattle.float.specs.Page.{Page, pageOf, freshContext, fresh, noBox, maxBands, maxBoxes}
+use Rattle.float.specs.Place.{Call, cleaned, numbers, Result, lowest, firstAllowed, askOf, spotOf, Made, make, recorded, boxOf, counted, xOf, refuse, near, high, flat, put, admitted, checked, place, widthCheck, withWidth, ifDone, setWidth}
 use Rattle.demands.specs.Runs.{Each, Pairs, Accepted, boxIn, lastInset, noted, box, handed, F32, containingLead, xFrom, LowEnough}
 use Rattle.demands.proofs.Laws.{k, Val, Ins, on-either, ins-zero, ins-val, sum-val, sum-ins, sum-grows}
-use Rattle.demands.proofs.Chain.{Chain, chain-at, chain-mark, length-mark}
+use Rattle.demands.proofs.Chain.{Chain, chain-at, chain-under, chain-mark, length-mark, mark-end}
 use Rattle.demands.proofs.Heights.{Grows, grows-refl, grows-trans, grows-mark}
-use Rattle.demands.proofs.First.{first-end, first-le, first-ge, first-far}
+use Rattle.demands.proofs.First.{first-end, first-le, first-ge, first-skip}
 use Rattle.demands.proofs.Splits.{Taken, start-in}
 use Rattle.demands.proofs.Leads.{search-leads}
 use Rattle.demands.proofs.Seek.{Falls, Asked, Count, no-count, Found, search-law}
@@ -44,9 +41,6 @@ use Rattle.demands.proofs.Input.{Known, known, check-both, plus-fits, c
 use Rattle.demands.proofs.Lists.{each-append, pairs-append, each-map}
 
 -- ---- the invariant
-abbrev keptOn : FloatDirection → Page → Kept
-keptOn r p = onSide r (p .left) (p .right)
-
 -- an accepted y is at or above the ceiling
 pub record Under (b : Bottom) (a : Accepted) : Type 0 where
   pub val : Val (a .y)
@@ -62,9 +56,8 @@ pub record Inv (p : Page) (g : List Accepted) : Type 0 where
   pub count : length (p .bands) ≤ maxBands
   pub full : length (p .boxes) ≤ maxBoxes
   pub boxes : p .boxes ≡ map boxIn g
-  pub kept : (r : FloatDirection) → keptOn r p .first ≤ keptOn r p .past
-  pub first : firstOf p ≤ length (p .bands)
-  pub falls : OneFalls (firstOf p) (p .bands)
+  pub first : firstAllowed p ≤ length (p .bands)
+  pub falls : OneFalls (firstAllowed p) (p .bands)
   pub tops : Each (Under (p .ceiling)) g
   pub rises : Pairs (λ a b. T (le (a .y) (b .y))) g
   pub leads : Each (λ a. T (le (containingLead a) (a .inset))) g
@@ -80,7 +73,6 @@ fresh-inv = record {
   count = omega arith;
   full = omega arith;
   boxes = refl;
-  kept = λ r. on-either (λ (x : Kept). x .first ≤ x .past) r (omega arith) (omega arith);
   first = omega arith;
   falls = λ r. inl (λ i j f h u. absurd (not-suc-le-zero u));
   bottom = λ r. on-either (BottomIs Val) r tt tt;
@@ -90,6 +82,14 @@ fresh-inv = record {
   answers = tt;
   rises = tt;
 }
+
+-- the bands before the first allowed one end at or above the ceiling
+abbrev pub Sunk : Page → Type 0
+Sunk p = (i : ℕ) → i < firstAllowed p → i < length (p .bands) → AtMost (getD (p .bands) i none .end) (p .ceiling)
+
+pub fresh-sunk : Sunk fresh
+unfolding fresh pageOf freshContext
+fresh-sunk i h u = absurd (not-suc-le-zero u)
 
 -- the y of an answer is low enough
 abbrev pub Lies : Page → Call → PlaceAnswer → Type 0
@@ -101,9 +101,10 @@ pub record Step (p : Page) (g : List Accepted) (c : Call) (r : Result) : Type 0 
   pub inv : Inv (r .page) (noted (r .answer) c (r .page) g)
   pub grows : Grows (p .bands) (r .page .bands)
   pub lies : Lies p c (r .answer)
+  pub sunk : Sunk p → Sunk (r .page)
 
 refuse-ok : (p : Page) (g : List Accepted) (c : Call) (n : Refusal) → Inv p g → Step p g c (refuse p n)
-refuse-ok p g c n v = record { inv = v; grows = grows-refl (p .bands); lies = tt }
+refuse-ok p g c n v = record { inv = v; grows = grows-refl (p .bands); lies = tt; sunk = λ t. t }
 
 -- ---- the two sides
 sides : (q r : FloatDirection) (f : ℕ) (l : List Segment) → Falls q f l ⊎ Falls (other q) f l → Falls r f l ⊎ Falls (other r) f l
@@ -114,9 +115,9 @@ sides FloatDirection.Left FloatDirection.Right f l (inr p) = inl p
 sides FloatDirection.Right FloatDirection.Left f l (inl p) = inr p
 sides FloatDirection.Right FloatDirection.Left f l (inr p) = inl p
 
-firsts : (r : FloatDirection) (L R : Kept) (s e : ℕ) → max (L .first) (R .first) ≤ s → max (onSide r (keep L s e) L .first) (onSide r R (keep R s e) .first) ≡ s
-firsts FloatDirection.Left L R s e h = omega arith
-firsts FloatDirection.Right L R s e h = omega arith
+firsts : (r : FloatDirection) (l m s : ℕ) → max l m ≤ s → max (onSide r (max l s) l) (onSide r m (max m s)) ≡ s
+firsts FloatDirection.Left l m s h = omega arith
+firsts FloatDirection.Right l m s h = omega arith
 
 -- ---- a box is counted
 pub last-inset : (p : Page) (a : Ask) (i y : Float) → lastInset (counted p a i y) ≡ i
@@ -147,7 +148,6 @@ module _ (p : Page) (g : List Accepted) (c : Call) (a : Ask) (i x y : Float) (v 
     count = v .count;
     full = omega (arith, length-append (p .boxes) (boxOf a i y ∷ []));
     boxes = ap (λ (l : List PlacedFloatedBox). l ++ boxOf a i y ∷ []) (v .boxes) ∙ ap (λ (d : PlacedFloatedBox). map boxIn g ++ d ∷ []) o ∙ sym (map-append boxIn g (e ∷ []));
-    kept = v .kept;
     first = v .first;
     falls = v .falls;
     bottom = counted-is Val larger-val p a i y (v .bottom) bot;
@@ -170,7 +170,7 @@ module _ (p : Page) (g : List Accepted) (c : Call) (a : Ask) (i x y : Float) (v 
   counted-ok o u r = subst (λ (t : Float). Inv (counted p a i y) (g ++ entry t ∷ [])) (sym (last-inset p a i y)) (counted-as (entry i) refl o u r)
 
 -- ---- a box is recorded
-module _ (p : Page) (g : List Accepted) (a : Ask) (i : Float) (m : Made) (v : Inv p g) (q : Asked a) (w : Ins i) (b : T (inReach (add binary32 i (a .width)))) (n : length (m .bands) ≤ maxBands) (D : Type 0) (o : MadeOk (p .bands) a (firstOf p) i D m) where
+module _ (p : Page) (g : List Accepted) (a : Ask) (i : Float) (m : Made) (v : Inv p g) (q : Asked a) (w : Ins i) (b : T (inReach (add binary32 i (a .width)))) (n : length (m .bands) ≤ maxBands) (D : Type 0) (o : MadeOk (p .bands) a (firstAllowed p) i D m) where
   edge : Ins (add binary32 i (a .width))
   edge = sum-ins w (q .width) b
 
@@ -183,17 +183,13 @@ module _ (p : Page) (g : List Accepted) (a : Ask) (i : Float) (m : Made) (v : In
   recorded-grows : Grows (p .bands) (recorded p a i m .bands)
   recorded-grows = grows-trans (p .bands) (m .bands) _ (o .grows) (grows-mark _ _ _ (m .bands) _ _ (λ j u x y. omega (arith, wider, o .covers j u (omega (arith, o .order)) y)))
 
-  kept-ok : (x : Kept) → x .first ≤ x .past → keep x (m .start) (m .end) .first ≤ keep x (m .start) (m .end) .past
-  kept-ok x h = omega (arith, o .order)
-
   recorded-ok : Inv (recorded p a i m) g
-  recorded-ok = let f = firsts (a .side) (p .left) (p .right) (m .start) (m .end) (o .first) in record {
+  recorded-ok = let f = firsts (a .side) (p .leftFirst) (p .rightFirst) (m .start) (o .first) in record {
     width = v .width;
     chain = chain-mark _ _ _ (inf true) (m .bands) _ _ edge (o .chain);
     count = omega (arith, same-length);
     full = v .full;
     boxes = v .boxes;
-    kept = λ r. on-either K r (on-either K (a .side) (kept-ok (p .left) (v .kept FloatDirection.Left)) (v .kept FloatDirection.Left)) (on-either K (a .side) (v .kept FloatDirection.Right) (kept-ok (p .right) (v .kept FloatDirection.Right)));
     first = omega (arith, same-length, o .order, o .last);
     falls = subst (λ (s : ℕ). OneFalls s l) (sym f) (λ r. sides (a .side) r (m .start) l (o .falls (add binary32 i (a .width)) (length (p .boxes)) wider));
     bottom = v .bottom;
@@ -207,11 +203,14 @@ module _ (p : Page) (g : List Accepted) (a : Ask) (i : Float) (m : Made) (v : In
       l : List Segment
       l = recorded p a i m .bands
 
-      K : Kept → Type 0
-      K x = x .first ≤ x .past
+  -- what is before the box ends at or above its y
+  recorded-sunk : (j : ℕ) → j < firstAllowed (recorded p a i m) → k (getD (recorded p a i m .bands) j none .end) ≤ k (m .y)
+  recorded-sunk j h =
+      let f = firsts (a .side) (p .leftFirst) (p .rightFirst) (m .start) (o .first) in
+      omega (arith, ap k (mark-end (a .side) (add binary32 i (a .width)) (length (p .boxes)) (m .bands) (m .start) (m .end) j), chain-under (inf true) (m .bands) j (m .start) (o .chain) (omega arith) (omega (arith, o .order, o .last)), o .top)
 
 -- ---- a placement whose input is in order
-module _ (p : Page) (g : List Accepted) (c : Call) (s : Spot) (v : Inv p g) (q : Asked (askOf p c)) (h : (z : Float) → AtMost z (p .ceiling) → k z ≤ k (lowest p c)) (e : (y : Float) → Val y → k (lowest p c) ≤ k y → LowEnough p c y) (n : length (p .boxes) < maxBoxes) (H : Count (p .bands)) (f : Found (p .bands) (askOf p c) (firstOf p) (lowest p c) H s) (r : T (le (askOf p c .«cb_lead») (s .inset))) where
+module _ (p : Page) (g : List Accepted) (c : Call) (s : Spot) (v : Inv p g) (q : Asked (askOf p c)) (h : (z : Float) → AtMost z (p .ceiling) → k z ≤ k (lowest p c)) (e : (y : Float) → Val y → k (lowest p c) ≤ k y → LowEnough p c y) (n : length (p .boxes) < maxBoxes) (H : Count (p .bands)) (f : Found (p .bands) (askOf p c) (firstAllowed p) (lowest p c) H s) (r : T (le (askOf p c .«cb_lead») (s .inset))) where
   put-ok : Step p g c (put p (askOf p c) s)
   unfolding put flat high
   put-ok =
@@ -221,6 +220,7 @@ module _ (p : Page) (g : List Accepted) (c : Call) (s : Spot) (v : Inv p g) (q :
         inv = counted-ok p g c a (s .inset) (xOf a (s .inset)) (s .y) v q (f .y) (and-l (inReach (add binary32 (s .y) (a .height))) (inReach (add binary32 (s .inset) (a .width))) u) n (λ z o. omega (arith, f .low, h z o)) (box-noted p c (s .inset) (xOf a (s .inset)) (s .y)) (in-container p c (s .inset) (xOf a (s .inset)) (s .y) r) (x-noted p c (s .inset) (s .y));
         grows = grows-refl (p .bands);
         lies = e (s .y) (f .y) (f .low);
+        sunk = λ t i b u. ceiling-keeps (p .ceiling) (getD (p .bands) i none .end) (s .y) (v .ceiling) (f .y) (t i b u);
       })
       (λ u. refuse-ok p g c Refusal.TooFar v))
       (λ t. both (Step p g c) (near a (s .inset) (m .y))
@@ -232,6 +232,7 @@ module _ (p : Page) (g : List Accepted) (c : Call) (s : Spot) (v : Inv p g) (q :
         inv = counted-ok (recorded p a (s .inset) m) g c a (s .inset) (xOf a (s .inset)) (m .y) (recorded-ok p g a (s .inset) m v q (f .inset) z l D o) q (d .0 .0) x n (λ z o. omega (arith, f .low, d .0 .1, h z o)) (box-noted p c (s .inset) (xOf a (s .inset)) (m .y)) (in-container p c (s .inset) (xOf a (s .inset)) (m .y) r) (x-noted p c (s .inset) (m .y));
         grows = recorded-grows p g a (s .inset) m v q (f .inset) z l D o;
         lies = e (m .y) (d .0 .0) (omega (arith, f .low, d .0 .1));
+        sunk = λ t i b u. ceiling-takes (p .ceiling) _ (m .y) (v .ceiling) (d .0 .0) (recorded-sunk p g a (s .inset) m v q (f .inset) z l D o i b);
       })
       (λ w. refuse-ok p g c Refusal.BandsFull v))
       (λ u. refuse-ok p g c Refusal.TooFar v))
@@ -245,25 +246,18 @@ module _ (p : Page) (g : List Accepted) (c : Call) (s : Spot) (v : Inv p g) (q :
       D : Type 0
       D = s .end < length (p .bands) → k (add binary32 (s .y) (a .height)) ≤ k (getD (p .bands) (s .end) none .end)
 
-      d : (Val (m .y) × (k (s .y) ≤ k (m .y))) × (T (inReach (add binary32 (m .y) (a .height))) → MadeOk (p .bands) a (firstOf p) (s .inset) D m)
-      d = make-ok (p .bands) a (firstOf p) (lowest p c) s (v .chain) q (v .falls (a .side)) (v .first) H f (le→key (q .cbLead .num) (f .inset .num) r)
+      d : (Val (m .y) × (k (s .y) ≤ k (m .y))) × (T (inReach (add binary32 (m .y) (a .height))) → MadeOk (p .bands) a (firstAllowed p) (s .inset) D m)
+      d = make-ok (p .bands) a (firstAllowed p) (lowest p c) s (v .chain) q (v .falls (a .side)) (v .first) H f (le→key (q .cbLead .num) (f .inset .num) r)
 
 -- ---- what the search finds on such a page
 module _ (p : Page) (g : List Accepted) (c : Call) (v : Inv p g) (n : Each Known (numbers c)) where
   lowest-val : Val (lowest p c)
   lowest-val = lowest-is Val larger-val p c (n .1 .1 .0) (v .ceiling) (v .bottom)
 
-  allowed-ok : (d : Clear) → firstOf p ≤ firstAllowed p d
-  unfolding firstAllowed clearedPast
-  allowed-ok Clear.None = omega arith
-  allowed-ok Clear.Left = omega arith
-  allowed-ok Clear.Right = omega arith
-  allowed-ok Clear.Both = omega (arith, v .kept FloatDirection.Left, v .kept FloatDirection.Right)
-
-  pub spot-ok : (H : Count (p .bands)) → H .Ok (askOf p c .«cb_lead») → H .Ok (lowest p c) → Found (p .bands) (askOf p c) (firstOf p) (lowest p c) H (spotOf p c)
+  pub spot-ok : (H : Count (p .bands)) → H .Ok (askOf p c .«cb_lead») → H .Ok (lowest p c) → Found (p .bands) (askOf p c) (firstAllowed p) (lowest p c) H (spotOf p c)
   unfolding spotOf
   spot-ok H o o' =
-      search-law l (askOf p c) (firstOf p) y H (v .chain) (asked p c (v .width) n) o (firstBelow l m y) (go (decLe m (length l))) (first-le l m y) lowest-val o'
+      search-law l (askOf p c) (firstAllowed p) y H (v .chain) (asked p c (v .width) n) o (firstBelow l m y) (first-ge l m y (v .first)) (first-le l m y) lowest-val o'
       (λ h. omega (arith, lt→key (lowest-val .num) (chain-at (inf true) l (firstBelow l m y) (v .chain) h .end .num) (first-end l m y h)))
       (v .falls (sideOf (c .side)))
     where
@@ -271,14 +265,10 @@ module _ (p : Page) (g : List Accepted) (c : Call) (v : Inv p g) (n : Each Known
       l = p .bands
 
       m : ℕ
-      m = firstAllowed p (clearOf (c .clear))
+      m = firstAllowed p
 
       y : Float
       y = lowest p c
-
-      go : Dec (m ≤ length l) → firstOf p ≤ firstBelow l m y
-      go (yes d) = omega (arith, first-ge l m y d, allowed-ok (clearOf (c .clear)))
-      go (no d) = omega (arith, first-far l m y (omega arith), v .first)
 
   pub spot-leads : T (le (askOf p c .«cb_lead») (spotOf p c .inset))
   unfolding spotOf
@@ -287,6 +277,12 @@ module _ (p : Page) (g : List Accepted) (c : Call) (v : Inv p g) (n : Each Known
   pub spot-in : Taken (p .bands) (askOf p c) (v .chain) (spotOf p c)
   unfolding spotOf
   spot-in = start-in (p .bands) (askOf p c) (v .chain) _ _ (first-le (p .bands) _ _) (lowest-val .num) (first-end (p .bands) _ _)
+
+  -- rule 2 never decides: it passes over what rule 1 has passed already
+  pub first-idle : Sunk p → firstBelow (p .bands) (firstAllowed p) (lowest p c) ≡ firstBelow (p .bands) 0 (lowest p c)
+  first-idle t =
+      first-skip (p .bands) (firstAllowed p) (lowest p c)
+      (λ i b u. not-T (lt (lowest p c) (getD (p .bands) i none .end)) (λ w. not-suc-le-zero {n = 0} (omega (arith, lt→key (lowest-val .num) (chain-at (inf true) (p .bands) i (v .chain) u .end .num) w, lowest-over p c (n .1 .1 .0) (v .ceiling) (v .bottom) (getD (p .bands) i none .end) (t i b u)))))
 
 admitted-ok : (p : Page) (g : List Accepted) (c : Call) → Inv p g → Each Known (numbers c) → Step p g c (admitted p c)
 unfolding admitted
@@ -327,7 +323,6 @@ wide-ok p g w v f =
         count = v .count;
         full = v .full;
         boxes = v .boxes;
-        kept = v .kept;
         first = v .first;
         falls = v .falls;
         bottom = v .bottom;
@@ -340,3 +335,11 @@ wide-ok p g w v f =
       refl,
     ))
     (λ n. (v, refl))
+
+pub wide-sunk : (p : Page) (w : Float) → Sunk p → Sunk (setWidth p w)
+unfolding setWidth
+wide-sunk p w t = go (widthCheck (p .boxes) (plusZero w))
+  where
+    go : (d : Done) → Sunk (ifDone d (withWidth p (plusZero w)) p)
+    go Done.Accepted = t
+    go (Done.Refused n) = t

@@ -26,10 +26,10 @@ use Rattle.float.specs.Numbers.{most, least, plusZero, within}
 use Rattle.float.specs.Refuse.{sideOf, clearOf}
 use Rattle.float.specs.Bands.{onSide, lead, none, splitAt}
 use Rattle.float.specs.Page.{Page, pageOf, freshContext, noBox}
-use Rattle.float.specs.Clear.{cleared}
+use Rattle.float.specs.Clear.{raiseTo, cleared}
 use Rattle.float.specs.Fit.{placedAt}
 use Rattle.float.specs.Place.{Call, cleaned, walked, startedAt, make, placeOf, widthOf}
-use Rattle.float.specs.Slot.{ContentCall}
+use Rattle.float.specs.Slot.{ContentCall, BfcCall}
 
 -- ---- lists
 
@@ -233,6 +233,26 @@ Holds b h = T (le (b .start) h) × T (lt h (b .end))
 
 abbrev pub StandsAt : Accepted → Float → Type 0
 StandsAt a h = T (le (a .y) h) × T (lt h (bottom a))
+
+-- ---- a call without its clear (2/14): none, at min_y raised to the cleared bottoms
+
+abbrev pub raised : Page → ℕ → Float → Float
+raised p clear y = raiseTo y (cleared p (clearOf clear))
+
+abbrev pub unclear : Page → Call → Call
+unclear p c = record { side = c .side; clear = 0; width = c .width; height = c .height; minY = raised p (c .clear) (c .minY); left = c .left; right = c .right }
+
+abbrev pub contentUnclear : Page → ContentCall → ContentCall
+contentUnclear p c = record { minY = raised p (c .clear) (c .minY); left = c .left; right = c .right; clear = 0; after = c .after }
+
+abbrev pub bfcUnclear : Page → BfcCall → BfcCall
+bfcUnclear p c = record { minY = raised p (c .clear) (c .minY); left = c .left; right = c .right; leftMargin = c .leftMargin; rightMargin = c .rightMargin; direction = c .direction; clear = 0; after = c .after }
+
+-- the clear is known, and min_y may be handed in, as it stands and raised
+pub record Raises (p : Page) (clear : ℕ) (y : Float) : Type 0 where
+  pub code : clear < 4
+  pub stands : T (within least most y)
+  pub lifted : T (within least most (raised p clear y))
 
 -- ---- a content question
 

@@ -7,6 +7,7 @@ pub mod Order
 pub mod Larger
 pub mod Rounding
 pub mod Sums
+pub mod Plain
 pub mod Limits
 pub mod Exact64
 pub mod Index64

@@ -5,10 +5,10 @@ use native.Mathlib.Nat.{mul-le-mul-right}
 use native.Mathlib.Omega.{arith}
 use mathlib.Core.Bool.{Bool, true, false, not, _&&_, cond, Bool·beq}
 use lib.Dec.{T, leb, ltb, ltb→lt, nltb→le, leb→le, nleb→lt}
-use lib.Pow.{pow-pos}
+use lib.Pow.{pow-pos, pow-lt}
 use lib.Ieee.{Float, nan, inf, fin, Format, prec, emax, low, isNan, neg, add, sum, round, units, odd}
 use lib.Ieee.Exact.{round-exact}
-use lib.Ieee.Fits.{round-fits, round-is}
+use lib.Ieee.Fits.{two, round-fits, round-is}
 use lib.Ieee.Order.{round-mono}
 use Rattle.f32_laws.specs.Key.{IsFin, Num, Fin, sign, bias, mag, signed, key, Units}
 use Rattle.f32_laws.specs.Round.{rnd, srnd}
@@ -80,6 +80,13 @@ rnd-exact f q j h k =
     let u = 2 ^ low f in
     let n = q * 2 ^ j in
     omega (arith, round-key f false n, value-key f (round f false n u) false n (round-fits f false n u) (round-exact f false n u q j (pow-pos (low f)) h k refl))
+
+-- what is not 0 is not rounded to it
+pub rnd-pos : (f : Format) (n : ℕ) → 0 < n → 0 < rnd f n
+unfolding bias
+rnd-pos f n h =
+    let one = rnd-exact f 1 0 (omega (arith, pow-lt {i = 0} {j = prec f} (omega (arith, two f)))) (omega (arith, pow-lt {i = 0} {j = low f + suc (emax f)} (omega arith))) in
+    omega (arith, one, rnd-mono f 1 n h)
 
 rnd-zero : (f : Format) → rnd f 0 ≡ 0
 rnd-zero f = rnd-exact f 0 0 (pow-pos (prec f)) (bias-pos f)

@@ -1,5 +1,5 @@
 -- What `admit` answers: the refusals in their order, then rules 1 and 2, from what its parts answer.
-use Prim.Native.Nat.{ℕ, _≤_, _<_, min}
+use Prim.Native.Nat.{ℕ, _≤_, _<_, min, max}
 use mathlib.Core.Path.{_≡_, refl, sym, ap, ap₂, _∙_}
 use mathlib.Core.Bool.{Bool, true, false, _&&_, cond}
 use mathlib.Core.List.{List, [], _∷_}
@@ -8,7 +8,6 @@ use borrow.Author.Tests.{lt-ltb, le-ltb, ltb-true, ltb-false}
 use lib.Dec.{ltb}
 use lib.Ieee.{Float}
 use lib.ListN.{length, take, length-take}
-use lib.Seq.{length-take-le}
 use Rattle.float.specs.declared.Bottom.{Bottom}
 use Rattle.float.specs.declared.Clear.{Clear}
 use Rattle.float.specs.declared.FloatDirection.{FloatDirection}
@@ -28,7 +27,6 @@ use Rattle.float.specs.Page.{Page, pageOf}
 use Rattle.float.specs.Place.{Call, cleaned, inputCheck, lowest, firstAllowed, askOf, spotOf, put, admitted, checked, place, held, placeOf}
 use Rattle.float.specs.Refuse.{sideOf, clearOf, checkOf}
 use Rattle.float.specs.Search.{searchFrom}
-use Rattle.float.proofs.Bands.{clamped}
 use Rattle.float.proofs.Front.{take-min}
 
 -- refusal 5 after the others: which was given, and what stands where none was
@@ -56,7 +54,7 @@ module _ (h : Head) (c : Call) (w t y l r : Float) (ew : w ≡ plusZero (c .widt
     (k : Check) (ek : k ≡ checkOf (ltb (c .side) 2 && ltb (c .clear) 4) (size w ∷ size t ∷ offset y ∷ size l ∷ size r ∷ [])) (check : Check) (ec : check ≡ roomCheck k (h .«box_count»)) (n : ℕ) (live : n ≡ min (h .count) 96)
     (z : FloatDirection) (ez : z ≡ sideOf (c .side)) (a : Ask) (ea : (q : Page) (d : Call) → q .width ≡ h .width → d .width ≡ w → d .height ≡ t → d .left ≡ l → d .right ≡ r → sideOf (d .side) ≡ z → a ≡ askOf q d)
     (x : Clear) (ex : x ≡ clearOf (c .clear)) (top : Float) (ep : top ≡ raiseTo y (h .ceiling)) (b : Bottom) (eb : (q : Page) → q .leftBottom ≡ h .«left_bottom» → q .rightBottom ≡ h .«right_bottom» → b ≡ cleared q x) (low : Float) (eo : low ≡ raiseTo top b)
-    (f : ℕ) (ef : (q : Page) → q .left .first ≡ h .«left_first» → q .left .past ≡ h .«left_past» → q .right .first ≡ h .«right_first» → q .right .past ≡ h .«right_past» → min f n ≡ min (firstAllowed q x) n) where
+    (f : ℕ) (ef : f ≡ max (h .«left_first») (h .«right_first»)) where
   input-is : inputCheck (cleaned c) ≡ k
   input-is = cc (ew, et, ey, el, er, ek)
 
@@ -82,9 +80,9 @@ module _ (h : Head) (c : Call) (w t y l r : Float) (ew : w ≡ plusZero (c .widt
       unfolding pageOf lowest
       low-is = eo ∙ ap₂ raiseTo (ep ∙ ap (λ (v : Float). raiseTo v (h .ceiling)) ey) (eb (pageOf (pageWith h bs xs)) refl refl ∙ ap (cleared (pageOf (pageWith h bs xs))) ex)
 
-      first-is : min f n ≡ min (firstAllowed (pageOf (pageWith h bs xs)) (clearOf (c .clear))) n
+      first-is : f ≡ firstAllowed (pageOf (pageWith h bs xs))
       unfolding pageOf
-      first-is = ef (pageOf (pageWith h bs xs)) refl refl refl refl ∙ ap (λ (v : Clear). min (firstAllowed (pageOf (pageWith h bs xs)) v) n) ex
+      first-is = ef
 
       live-at : take n bs ≡ pageOf (pageWith h bs xs) .bands
       unfolding pageOf
@@ -94,12 +92,9 @@ module _ (h : Head) (c : Call) (w t y l r : Float) (ew : w ≡ plusZero (c .widt
       unfolding spotOf
       spot-is =
           let p = pageOf (pageWith h bs xs) in
-          let g = firstAllowed p (clearOf (c .clear)) in
-          let m : length (p .bands) ≡ n = ap length (sym live-at) ∙ length-take-le n bs (omega arith) in
-          let i : firstBelow (p .bands) f low ≡ firstBelow (p .bands) g low =
-          sym (clamped (p .bands) f low) ∙ ap (λ (v : ℕ). firstBelow (p .bands) v low) (ap (min f) m ∙ first-is ∙ sym (ap (min g) m)) ∙ clamped (p .bands) g low in
+          let g = firstAllowed p in
           ap (λ (v : List Segment). searchFrom v a (firstBelow v f low) low) live-at
-          ∙ ap (λ (v : ℕ). searchFrom (p .bands) a v low) i
+          ∙ ap (λ (v : ℕ). searchFrom (p .bands) a (firstBelow (p .bands) v low) low) first-is
           ∙ ap (λ (v : Ask). searchFrom (p .bands) v (firstBelow (p .bands) g low) low) ask-is
           ∙ ap (λ (v : Float). searchFrom (p .bands) (askOf p (cleaned c)) (firstBelow (p .bands) g v) v) low-is
 

@@ -100,7 +100,7 @@ module _ (h : Head) (adm : Admission) (s : Spot) (n : ℕ) (en : n ≡ min (adm 
         far = flat-far h bs xs bands boxes n live few (adm .ask) s;
         full = λ t u. absurd (omega arith);
         room = λ u. (omega arith, omega arith);
-        done = λ t u q v. flat-settled h bs xs bands boxes n live few (adm .ask) s t (stillPlan n s) refl refl refl refl ∙ ap (λ (b : List Segment). record { answer = PlaceAnswer.At (xOf (adm .ask) (s .inset)) (s .y) (s .steps); page = pageWith (headAfter h (adm .ask) (stillPlan n s)) b (set xs (h .«box_count») (boxOf (adm .ask) (s .inset) (s .y))) }) (sym (tab-none _ _ bs q 0 v));
+        done = λ t u q v. flat-settled h bs xs bands boxes n live few (adm .ask) s t (stillPlan n s) refl refl refl ∙ ap (λ (b : List Segment). record { answer = PlaceAnswer.At (xOf (adm .ask) (s .inset)) (s .y) (s .steps); page = pageWith (headAfter h (adm .ask) (stillPlan n s)) b (set xs (h .«box_count») (boxOf (adm .ask) (s .inset) (s .y))) }) (sym (tab-none _ _ bs q 0 v));
       }))
 
   -- with a height: last, first and end are the bands that were read, i the end walked back
@@ -159,7 +159,7 @@ module _ (h : Head) (adm : Admission) (s : Spot) (n : ℕ) (en : n ≡ min (adm 
       full = λ t u. high-full h bs xs bands boxes n live few (adm .ask) s M (near-is true t) (lt-leb (length (M .bands)) 96 (omega (arith, made .count)));
       room = made .room;
       done = λ t u q v.
-          high-settled h bs xs bands boxes n live few (adm .ask) s M (near-is true t) (le-leb (length (M .bands)) 96 (omega (arith, made .count))) p (made .count) (made .start) (made .past) (made .y)
+          high-settled h bs xs bands boxes n live few (adm .ask) s M (near-is true t) (le-leb (length (M .bands)) 96 (omega (arith, made .count))) p (made .count) (made .start) (made .y)
           ∙ ap (λ (b : List Segment). record { answer = PlaceAnswer.At (xOf (adm .ask) (s .inset)) (p .y) (s .steps); page = pageWith (headAfter h (adm .ask) p) b (set xs (h .«box_count») (boxOf (adm .ask) (s .inset) (p .y))) }) (sym (made .bands u q v));
     }
 

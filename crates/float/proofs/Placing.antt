@@ -1,5 +1,5 @@
--- From what the leaves of a placement answer to its definitions: what is asked, rule 2; and the width.
-use Prim.Native.Nat.{ℕ, suc, _+_, _≤_, _<_, min, max}
+-- From what the leaves of a placement answer to its definitions: what is asked; and the width.
+use Prim.Native.Nat.{ℕ, _≤_, _<_, min}
 use mathlib.Core.Path.{_≡_, sym, _∙_, subst}
 use mathlib.Core.Bool.{true}
 use mathlib.Core.List.{[], _∷_}
@@ -7,7 +7,6 @@ use native.Mathlib.Omega.{arith}
 use borrow.Author.Tests.{ne-eqb}
 use lib.Ieee.{Float}
 use lib.ListN.{length, take, length-take}
-use Rattle.float.specs.declared.Clear.{Clear}
 use Rattle.float.specs.declared.Done.{Done}
 use Rattle.float.specs.declared.FloatContext.{FloatContext}
 use Rattle.float.specs.declared.Head.{Head}
@@ -18,10 +17,9 @@ use Rattle.float.specs.declared.fit.Ask.{Ask}
 use Rattle.float.specs.declared.refuse.Check.{Check}
 use Rattle.float.specs.Numbers.{size, plusZero}
 use Rattle.float.specs.Bands.{onSide}
-use Rattle.float.specs.Clear.{clearedPast}
 use Rattle.float.specs.Page.{Page, pageOf, front, stored}
 use Rattle.float.specs.Head.{headOf, pageWith}
-use Rattle.float.specs.Place.{Call, askOf, firstAllowed, widthCheck, withWidth, widthOf}
+use Rattle.float.specs.Place.{Call, askOf, widthCheck, withWidth, widthOf}
 use Rattle.float.specs.Refuse.{sideOf, checkOf}
 use Rattle.float.proofs.Front.{front-live}
 
@@ -29,27 +27,6 @@ use Rattle.float.proofs.Front.{front-live}
 pub asked : (w h pw l r : Float) (s : FloatDirection) (p : Page) (c : Call) → p .width ≡ pw → c .width ≡ w → c .height ≡ h → c .left ≡ l → c .right ≡ r → sideOf (c .side) ≡ s
     → _≡_ {A = Ask} (record { width = w; height = h; page = pw; «cb_lead» = onSide s l r; «cb_trail» = onSide s r l; side = s }) (askOf p c)
 asked w h pw l r s p c a b d e f g = cc
-
--- rule 2, with numbers past the last band cut to it
-cut : (f x n : ℕ) → min (max f (min x n + 1)) n ≡ min (max f (suc x)) n
-cut f x n = omega arith
-
-module _ (p : Page) (n lf lp rf rp f : ℕ) (k : Clear) (a : p .left .first ≡ lf) (b : p .left .past ≡ lp) (d : p .right .first ≡ rf) (e : p .right .past ≡ rp) where
-  pub allowed-none : k ≡ Clear.None → f ≡ max lf rf → min f n ≡ min (firstAllowed p k) n
-  unfolding firstAllowed
-  allowed-none i g = simp (i, a, d, g)
-
-  pub allowed-left : (l r : ℕ) → k ≡ Clear.Left → f ≡ max lf rf → l ≡ min lp n → r ≡ max f (l + 1) → min r n ≡ min (firstAllowed p k) n
-  unfolding firstAllowed clearedPast
-  allowed-left l r i g h m = simp (i, a, b, d, m, h, g) (cut (max lf rf) lp n)
-
-  pub allowed-right : (l r : ℕ) → k ≡ Clear.Right → f ≡ max lf rf → l ≡ min rp n → r ≡ max f (l + 1) → min r n ≡ min (firstAllowed p k) n
-  unfolding firstAllowed clearedPast
-  allowed-right l r i g h m = simp (i, a, d, e, m, h, g) (cut (max lf rf) rp n)
-
-  pub allowed-both : (l r : ℕ) → k ≡ Clear.Both → l ≡ min lp n → r ≡ min rp n → f ≡ max l r → min (f + 1) n ≡ min (firstAllowed p k) n
-  unfolding firstAllowed clearedPast
-  allowed-both l r i g h m = simp i (omega arith)
 
 -- ---- the width
 module _ (p : FloatContext) (w v : Float) (k : Check) (f : v ≡ plusZero w) (g : k ≡ checkOf true (size v ∷ [])) where
@@ -62,7 +39,7 @@ module _ (p : FloatContext) (w v : Float) (k : Check) (f : v ≡ plusZero w) (g 
   width-fixed h e b = simp (sym f, widthCheck, sym g, e, ne-eqb (length (take (p .«box_count») (p .boxes))) 0 (λ z. omega (arith, length-take (p .«box_count») (p .boxes))))
 
   pub width-set : (n : ℕ) → length (p .bands) ≡ 96 → k ≡ Check.Passed → p .«box_count» ≤ 0 → n ≡ min (p .count) 96
-      → _≡_ {A = Widened} (record { answer = Done.Accepted; page = record { width = v; bands = p .bands; count = n; boxes = p .boxes; «box_count» = p .«box_count»; «left_bottom» = p .«left_bottom»; «right_bottom» = p .«right_bottom»; ceiling = p .ceiling; «left_first» = p .«left_first»; «left_past» = p .«left_past»; «right_first» = p .«right_first»; «right_past» = p .«right_past» } }) (widthOf p w)
+      → _≡_ {A = Widened} (record { answer = Done.Accepted; page = record { width = v; bands = p .bands; count = n; boxes = p .boxes; «box_count» = p .«box_count»; «left_bottom» = p .«left_bottom»; «right_bottom» = p .«right_bottom»; ceiling = p .ceiling; «left_first» = p .«left_first»; «right_first» = p .«right_first» } }) (widthOf p w)
   unfolding widthOf widthCheck pageOf stored
   width-set n h e b m =
       let z : p .«box_count» ≡ 0 = omega arith in

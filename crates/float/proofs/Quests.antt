@@ -1,5 +1,5 @@
 -- What a holder that looks among its own bands answers is what the page answers: a band found below the raised height proves that floats are active, so the search lands where the definition's does.
-use Prim.Native.Nat.{ℕ, zero, suc, _<_, _≤_, _-_, min, max, zero-le, suc-le-suc}
+use Prim.Native.Nat.{ℕ, zero, suc, _<_, _≤_, _-_, min, zero-le, suc-le-suc}
 use mathlib.Core.Path.{_≡_, refl, sym, ap, ap₂, subst, _∙_}
 use mathlib.Core.Bool.{Bool, true, false, _&&_, cond, true≢false}
 use mathlib.Core.List.{List, [], _∷_}
@@ -32,8 +32,8 @@ use Rattle.float.specs.Refuse.{clearOf, directionOf, checkOf}
 use Rattle.float.specs.Bands.{none, firstBelow, lastEnd}
 use Rattle.float.specs.Page.{Page, pageOf, maxBands}
 use Rattle.float.specs.Head.{pageWith, headOf}
-use Rattle.float.specs.Clear.{raiseTo, cleared, clearedPast}
-use Rattle.float.specs.Slot.{active, from, pastOver, allowedFrom, landed, seek, ContentCall, contentCleaned, contentCheck, contentSlot, contentAsked, content, BfcCall, bfcCleaned, bfcCheck, bfcInsets, bfcSlot, bfcAsked, bfc}
+use Rattle.float.specs.Clear.{raiseTo, cleared}
+use Rattle.float.specs.Slot.{active, from, landed, seek, ContentCall, contentCleaned, contentCheck, contentSlot, contentAsked, content, BfcCall, bfcCleaned, bfcCheck, bfcInsets, bfcSlot, bfcAsked, bfc}
 use Rattle.float.specs.Quest.{questOf, contentQuest, bfcQuest, Found, landing}
 use Rattle.float.proofs.Bands.{below-length, clamped}
 use Rattle.float.proofs.Front.{take-min}
@@ -99,13 +99,6 @@ module _ (h : Head) (bs : List Segment) (xs : List PlacedFloatedBox) where
   cleared-alike Clear.Right = refl
   cleared-alike Clear.Both = refl
 
-  past-alike : (c : Clear) → clearedPast (pageIn h [] []) c ≡ clearedPast (pageIn h bs xs) c
-  unfolding clearedPast pageOf
-  past-alike Clear.None = refl
-  past-alike Clear.Left = refl
-  past-alike Clear.Right = refl
-  past-alike Clear.Both = refl
-
   module _ (len : length bs ≡ 96) where
     live : pageIn h bs xs .bands ≡ take (min (h .count) 96) bs
     unfolding pageOf
@@ -120,17 +113,15 @@ module _ (h : Head) (bs : List Segment) (xs : List PlacedFloatedBox) where
       seeks f =
           let p = pageIn h bs xs in
           let n = min (h .count) 96 in
-          let first : allowedFrom (pageIn h [] []) c after ≡ allowedFrom p c after = ap (λ (m : ℕ). max (from after) (pastOver m)) (past-alike c) in
-          let at : i ≡ firstBelow (p .bands) (allowedFrom p c after) (raiseTo y (cleared p c)) =
+          let at : i ≡ firstBelow (p .bands) (from after) (raiseTo y (cleared p c)) =
           f .at
-          ∙ ap (λ (m : ℕ). firstBelow (take n bs) (min m n) (raiseTo y (cleared (pageIn h [] []) c))) first
-          ∙ ap (λ (b : Bottom). firstBelow (take n bs) (min (allowedFrom p c after) n) (raiseTo y b)) (cleared-alike c)
-          ∙ ap (λ (l : List Segment). firstBelow l (min (allowedFrom p c after) n) (raiseTo y (cleared p c))) (sym live)
-          ∙ ap (λ (m : ℕ). firstBelow (p .bands) (min (allowedFrom p c after) m) (raiseTo y (cleared p c))) (sym live-length)
-          ∙ clamped (p .bands) (allowedFrom p c after) (raiseTo y (cleared p c)) in
+          ∙ ap (λ (b : Bottom). firstBelow (take n bs) (min (from after) n) (raiseTo y b)) (cleared-alike c)
+          ∙ ap (λ (l : List Segment). firstBelow l (min (from after) n) (raiseTo y (cleared p c))) (sym live)
+          ∙ ap (λ (m : ℕ). firstBelow (p .bands) (min (from after) m) (raiseTo y (cleared p c))) (sym live-length)
+          ∙ clamped (p .bands) (from after) (raiseTo y (cleared p c)) in
           let lower : i ≡ length (p .bands) → k ≡ firstBelow (p .bands) 0 y = λ e. f .lower (e ∙ live-length) ∙ ap (λ (l : List Segment). firstBelow l 0 y) (sym live) in
           ap₂ (λ (m : ℕ) (b : Bottom). cond (ltb i m) (Sought.At i (raiseTo y b)) (cond (ltb k m) (Sought.Past (raiseTo y b)) (Sought.Quiet y))) (sym live-length) (cleared-alike c)
-          ∙ lands (p .bands) (allowedFrom p c after) y (raiseTo y (cleared p c)) (raised-below y (cleared p c)) at lower
+          ∙ lands (p .bands) (from after) y (raiseTo y (cleared p c)) (raised-below y (cleared p c)) at lower
 
 -- a page is its head with its arrays
 module _ (p : FloatContext) {h : Head} (e : h ≡ headOf p) where
@@ -150,9 +141,9 @@ min-again : (a m n : ℕ) → n ≤ m → min (min a m) n ≡ min a n
 min-again a m n h = omega arith
 
 module _ (h : Head) where
-  pub quest-made : (t : Check) (c : Clear) (after : BandNumber) (y : Float) {n past m f : ℕ} {b : Bottom} {z : Float} → n ≡ min (h .count) 96 → past ≡ clearedPast (pageIn h [] []) c → m ≡ min (max (from after) (pastOver past)) maxBands → f ≡ min m n → b ≡ cleared (pageIn h [] []) c → z ≡ raiseTo y b → (n ≤ 96) × (f ≤ n) × (record { check = t; n = n; from = f; above = z; y = y } ≡ questOf h t c after y)
-  quest-made t c after y {n} {past} {m} {f} en ep em ef eb ez =
-      let e : f ≡ min (allowedFrom (pageIn h [] []) c after) (min (h .count) 96) = ef ∙ rw (em, ep, en) (min-again (allowedFrom (pageIn h [] []) c after) 96 (min (h .count) 96) (omega arith)) in
+  pub quest-made : (t : Check) (c : Clear) (after : BandNumber) (y : Float) {n m f : ℕ} {b : Bottom} {z : Float} → n ≡ min (h .count) 96 → m ≡ min (from after) maxBands → f ≡ min m n → b ≡ cleared (pageIn h [] []) c → z ≡ raiseTo y b → (n ≤ 96) × (f ≤ n) × (record { check = t; n = n; from = f; above = z; y = y } ≡ questOf h t c after y)
+  quest-made t c after y {n} {m} {f} en em ef eb ez =
+      let e : f ≡ min (from after) (min (h .count) 96) = ef ∙ rw (em, en) (min-again (from after) 96 (min (h .count) 96) (omega arith)) in
       (omega arith, omega arith, cc)
 
   pub content-sought : (c : ContentCall) {y l r : Float} {t : Check} {s : Clear} {q : Quest} → y ≡ plusZero (c .minY) → l ≡ plusZero (c .left) → r ≡ plusZero (c .right) → t ≡ checkOf (ltb (c .clear) 4) (offset y ∷ size l ∷ size r ∷ []) → s ≡ clearOf (c .clear) → q ≡ questOf h t s (c .after) y → q ≡ contentQuest h c

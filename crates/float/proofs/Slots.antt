@@ -1,6 +1,6 @@
 -- Laws of the slots: the first number allowed, clamped to the number of places; and the slot by where the search lands.
-use Prim.Native.Nat.{ℕ, zero, suc, min, max}
-use mathlib.Core.Path.{_≡_, refl, ap, ap₂, _∙_}
+use Prim.Native.Nat.{ℕ, _+_, min}
+use mathlib.Core.Path.{_≡_, ap, ap₂, _∙_}
 use native.Mathlib.Omega.{arith}
 use lib.Ieee.{Float}
 use lib.ListN.{getD}
@@ -16,23 +16,16 @@ use Rattle.float.specs.declared.slot.Insets.{Insets}
 use Rattle.float.specs.declared.slot.Sought.{Sought}
 use Rattle.float.specs.Bands.{none, lastEnd}
 use Rattle.float.specs.Page.{Page, maxBands}
-use Rattle.float.specs.Slot.{from, pastOver, besideBand, contentAt, contentSlot, besideBoth, besideNone, bfcAt, bfcSlot}
+use Rattle.float.specs.Slot.{from, besideBand, contentAt, contentSlot, besideBoth, besideNone, bfcAt, bfcSlot}
 
 -- ---- the first number allowed, clamped to the number of places
 
-pub over-none : (past : ℕ) → past ≡ 0 → 0 ≡ min (pastOver past) maxBands
-over-none past e = rw e
+module _ {after : BandNumber} where
+  pub allowed-none : after ≡ BandNumber.None → 0 ≡ min (from after) maxBands
+  allowed-none ea = rw ea
 
-pub over-some : (past : ℕ) {r : ℕ} → (past ≡ 0 → ⊥) → r ≡ min (suc past) maxBands → r ≡ min (pastOver past) maxBands
-over-some zero h e = absurd (h refl)
-over-some (suc n) h e = e
-
-module _ {after : BandNumber} (past : ℕ) {b : ℕ} (eb : b ≡ min (pastOver past) maxBands) where
-  pub allowed-none : after ≡ BandNumber.None → b ≡ min (max (from after) (pastOver past)) maxBands
-  allowed-none ea = rw ea (omega arith)
-
-  pub allowed-some : {k a r : ℕ} → after ≡ BandNumber.At k → a ≡ min (suc k) maxBands → r ≡ max a b → r ≡ min (max (from after) (pastOver past)) maxBands
-  allowed-some ea e er = rw ea (omega arith)
+  pub allowed-some : {k a : ℕ} → after ≡ BandNumber.At k → a ≡ min k 95 → a + 1 ≡ min (from after) maxBands
+  allowed-some ea e = rw ea (omega arith)
 
 -- ---- the slots: s is where the search landed, y its height, v the slot's y
 

@@ -1,5 +1,4 @@
--- Clearing: the bottoms and the band numbers that a clear asks for, in placements and in both questions. Definitions only.
-use Prim.Native.Nat.{ℕ, max}
+-- Clearing: the bottoms that a clear asks for, in placements and in both questions (2/14: and nothing else). Definitions only.
 use lib.Ieee.{Float}
 use Rattle.f32_laws.specs.Numbers.{larger}
 use Rattle.float.specs.declared.Bottom.{Bottom}
@@ -23,10 +22,3 @@ cleared p Clear.None = Bottom.None
 cleared p Clear.Left = p .leftBottom
 cleared p Clear.Right = p .rightBottom
 cleared p Clear.Both = lower (p .leftBottom) (p .rightBottom)
-
--- the largest past-last band number of the sides named by clear, 0 where none is
-unfoldable pub clearedPast : Page → Clear → ℕ
-clearedPast p Clear.None = 0
-clearedPast p Clear.Left = p .left .past
-clearedPast p Clear.Right = p .right .past
-clearedPast p Clear.Both = max (p .left .past) (p .right .past)

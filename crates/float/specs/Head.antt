@@ -17,9 +17,7 @@ pageWith h bands boxes = record {
   «right_bottom» = h .«right_bottom»;
   ceiling = h .ceiling;
   «left_first» = h .«left_first»;
-  «left_past» = h .«left_past»;
   «right_first» = h .«right_first»;
-  «right_past» = h .«right_past»;
 }
 
 -- the head of a page
@@ -32,7 +30,5 @@ headOf p = record {
   «right_bottom» = p .«right_bottom»;
   ceiling = p .ceiling;
   «left_first» = p .«left_first»;
-  «left_past» = p .«left_past»;
   «right_first» = p .«right_first»;
-  «right_past» = p .«right_past»;
 }

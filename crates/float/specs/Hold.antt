@@ -53,7 +53,7 @@ pub record WalkedBack (l : List Segment) (a : Ask) (s : Spot) (e : ℕ) : Type 0
 abbrev pub bottomAfter : FloatDirection → FloatDirection → Bottom → Float → Bottom
 bottomAfter s of b bottom = cond (sameSide s of) (lower b (Bottom.At bottom)) b
 
--- a kept number of the side `of`, raised to n by a box of the side s
+-- the kept first of the side `of`, raised to n by a box of the side s
 abbrev pub numberAfter : FloatDirection → FloatDirection → ℕ → ℕ → ℕ
 numberAfter s of k n = cond (sameSide s of) (max k n) k
 
@@ -67,9 +67,7 @@ headAfter h a p = record {
   «right_bottom» = bottomAfter (a .side) FloatDirection.Right (h .«right_bottom») (add binary32 (p .y) (a .height));
   ceiling = lower (h .ceiling) (Bottom.At (p .y));
   «left_first» = numberAfter (a .side) FloatDirection.Left (h .«left_first») (p .first);
-  «left_past» = numberAfter (a .side) FloatDirection.Left (h .«left_past») (p .past);
   «right_first» = numberAfter (a .side) FloatDirection.Right (h .«right_first») (p .first);
-  «right_past» = numberAfter (a .side) FloatDirection.Right (h .«right_past») (p .past);
 }
 
 abbrev pub refusedEntry : Head → Plan → PlacedFloatedBox → Refusal → Entry

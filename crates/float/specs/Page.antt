@@ -18,12 +18,7 @@ maxBands = 96
 abbrev pub maxBoxes : ℕ
 maxBoxes = 64
 
--- the first and the past-last band number of a side
-pub record Kept : Type 0 where
-  pub first : ℕ
-  pub past : ℕ
-
--- the page: its live bands, its boxes in the order of acceptance, and what is kept
+-- the page: its live bands, its boxes in the order of acceptance, and what is kept: of each side a bottom and a first band number, and the ceiling
 pub record Page : Type 0 where
   pub width : Float
   pub bands : List Segment
@@ -31,8 +26,8 @@ pub record Page : Type 0 where
   pub leftBottom : Bottom
   pub rightBottom : Bottom
   pub ceiling : Bottom
-  pub left : Kept
-  pub right : Kept
+  pub leftFirst : ℕ
+  pub rightFirst : ℕ
 
 -- what stands in a dead place of a fresh struct
 abbrev pub noBox : PlacedFloatedBox
@@ -47,8 +42,8 @@ pageOf p = record {
   leftBottom = p .«left_bottom»;
   rightBottom = p .«right_bottom»;
   ceiling = p .ceiling;
-  left = record { first = p .«left_first»; past = p .«left_past» };
-  right = record { first = p .«right_first»; past = p .«right_past» };
+  leftFirst = p .«left_first»;
+  rightFirst = p .«right_first»;
 }
 
 -- a list at the front of an array, whose other places stay as they were
@@ -66,10 +61,8 @@ stored q p = record {
   «left_bottom» = q .leftBottom;
   «right_bottom» = q .rightBottom;
   ceiling = q .ceiling;
-  «left_first» = q .left .first;
-  «left_past» = q .left .past;
-  «right_first» = q .right .first;
-  «right_past» = q .right .past;
+  «left_first» = q .leftFirst;
+  «right_first» = q .rightFirst;
 }
 
 -- a fresh page has width 0 and nothing else; every dead place is zero
@@ -84,9 +77,7 @@ freshContext = record {
   «right_bottom» = Bottom.None;
   ceiling = Bottom.None;
   «left_first» = 0;
-  «left_past» = 0;
   «right_first» = 0;
-  «right_past» = 0;
 }
 
 -- the page that it holds

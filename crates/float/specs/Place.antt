@@ -7,7 +7,6 @@ use lib.Ieee.{Float, inf, binary32, add, sub, lt, le, eq}
 use lib.ListN.{length, getD}
 use Rattle.f32_laws.specs.Numbers.{larger, zero+}
 use Rattle.float.specs.declared.Bottom.{Bottom}
-use Rattle.float.specs.declared.Clear.{Clear}
 use Rattle.float.specs.declared.Done.{Done}
 use Rattle.float.specs.declared.FloatContext.{FloatContext}
 use Rattle.float.specs.declared.PlaceAnswer.{PlaceAnswer}
@@ -22,8 +21,8 @@ use Rattle.float.specs.declared.search.Spot.{Spot}
 use Rattle.float.specs.Numbers.{Given, size, offset, plusZero, inReach}
 use Rattle.float.specs.Refuse.{sideOf, clearOf, checkOf}
 use Rattle.float.specs.Bands.{none, bare, onSide, splitAt, markAll, lastEnd, firstBelow}
-use Rattle.float.specs.Page.{Kept, Page, pageOf, stored, maxBands, maxBoxes}
-use Rattle.float.specs.Clear.{lower, raiseTo, cleared, clearedPast}
+use Rattle.float.specs.Page.{Page, pageOf, stored, maxBands, maxBoxes}
+use Rattle.float.specs.Clear.{lower, raiseTo, cleared}
 use Rattle.float.specs.Search.{searchFrom}
 
 -- a placement as it is handed in: two codes and five numbers
@@ -55,15 +54,9 @@ pub record Result : Type 0 where
 unfoldable pub lowest : Page → Call → Float
 lowest p c = raiseTo (raiseTo (c .minY) (p .ceiling)) (cleared p (clearOf (c .clear)))
 
--- rule 2: the first band number allowed
-abbrev pub firstOf : Page → ℕ
-firstOf p = max (p .left .first) (p .right .first)
-
-unfoldable pub firstAllowed : Page → Clear → ℕ
-firstAllowed p Clear.None = firstOf p
-firstAllowed p Clear.Left = max (firstOf p) (suc (clearedPast p Clear.Left))
-firstAllowed p Clear.Right = max (firstOf p) (suc (clearedPast p Clear.Right))
-firstAllowed p Clear.Both = suc (clearedPast p Clear.Both)
+-- rule 2 (2/14): the first band number allowed is the larger of the two kept firsts, whatever clear says
+abbrev pub firstAllowed : Page → ℕ
+firstAllowed p = max (p .leftFirst) (p .rightFirst)
 
 -- rules 3 and 4: what is asked of a place, and the spot that the search finds
 abbrev pub askOf : Page → Call → Ask
@@ -77,7 +70,7 @@ askOf p c = record {
 }
 
 unfoldable pub spotOf : Page → Call → Spot
-spotOf p c = searchFrom (p .bands) (askOf p c) (firstBelow (p .bands) (firstAllowed p (clearOf (c .clear))) (lowest p c)) (lowest p c)
+spotOf p c = searchFrom (p .bands) (askOf p c) (firstBelow (p .bands) (firstAllowed p) (lowest p c)) (lowest p c)
 
 -- the bands with the box's place made, the bands from start to end that it takes, and its y
 pub record Made : Type 0 where
@@ -137,10 +130,7 @@ make a l p =
     (startedAt a (splitAt l (p .start) (p .y)) (suc (p .start)) (suc (p .end)) (p .y)))
     (belowAll a l (endOf l) (p .y))
 
--- rule 8: the bands from start to end get placed inset + width, the mark and the box's number, counted over the boxes before it (1/14); the side's kept numbers are raised to start and end + 1
-abbrev pub keep : Kept → (start end : ℕ) → Kept
-keep k s e = record { first = max (k .first) s; past = max (k .past) (suc e) }
-
+-- rule 8: the bands from start to end get placed inset + width, the mark and the box's number, counted over the boxes before it (1/14); the side's kept first is raised to start (2/14)
 abbrev pub recorded : Page → Ask → (inset : Float) → Made → Page
 recorded p a i m = record {
   width = p .width;
@@ -149,8 +139,8 @@ recorded p a i m = record {
   leftBottom = p .leftBottom;
   rightBottom = p .rightBottom;
   ceiling = p .ceiling;
-  left = onSide (a .side) (keep (p .left) (m .start) (m .end)) (p .left);
-  right = onSide (a .side) (p .right) (keep (p .right) (m .start) (m .end));
+  leftFirst = onSide (a .side) (max (p .leftFirst) (m .start)) (p .leftFirst);
+  rightFirst = onSide (a .side) (p .rightFirst) (max (p .rightFirst) (m .start));
 }
 
 -- what every accepted box does, one of no height too: its side's bottom, the ceiling, and the box itself
@@ -165,8 +155,8 @@ counted p a i y = record {
   leftBottom = onSide (a .side) (lower (p .leftBottom) (Bottom.At (add binary32 y (a .height)))) (p .leftBottom);
   rightBottom = onSide (a .side) (p .rightBottom) (lower (p .rightBottom) (Bottom.At (add binary32 y (a .height))));
   ceiling = lower (p .ceiling) (Bottom.At y);
-  left = p .left;
-  right = p .right;
+  leftFirst = p .leftFirst;
+  rightFirst = p .rightFirst;
 }
 
 -- a left box answers its inset as x, a right box page width - inset - width
@@ -228,7 +218,7 @@ widthCheck boxes w =
     ]
 
 abbrev pub withWidth : Page → Float → Page
-withWidth p w = record { width = w; bands = p .bands; boxes = p .boxes; leftBottom = p .leftBottom; rightBottom = p .rightBottom; ceiling = p .ceiling; left = p .left; right = p .right }
+withWidth p w = record { width = w; bands = p .bands; boxes = p .boxes; leftBottom = p .leftBottom; rightBottom = p .rightBottom; ceiling = p .ceiling; leftFirst = p .leftFirst; rightFirst = p .rightFirst }
 
 abbrev pub ifDone {ℓ} : {A : Type ℓ} → Done → A → A → A
 ifDone Done.Accepted new old = new

@@ -18,14 +18,14 @@ use Rattle.float.specs.Bands.{firstBelow}
 use Rattle.float.specs.Page.{pageOf, maxBands}
 use Rattle.float.specs.Head.{pageWith}
 use Rattle.float.specs.Clear.{raiseTo, cleared}
-use Rattle.float.specs.Slot.{allowedFrom, ContentCall, contentCleaned, contentCheck, BfcCall, bfcCleaned, bfcCheck}
+use Rattle.float.specs.Slot.{from, ContentCall, contentCleaned, contentCheck, BfcCall, bfcCleaned, bfcCheck}
 
 -- what is looked for, y being min_y: of the first n bands, from `from` on, the first that ends below `above`. Clearing reads no band, so a page with none serves
 abbrev pub questOf : Head → Check → Clear → BandNumber → Float → Quest
 questOf h k c after y = record {
   check = k;
   n = min (h .count) maxBands;
-  from = min (allowedFrom (pageOf (pageWith h [] [])) c after) (min (h .count) maxBands);
+  from = min (from after) (min (h .count) maxBands);
   above = raiseTo y (cleared (pageOf (pageWith h [] [])) c);
   y = y;
 }

@@ -1,5 +1,5 @@
 -- Questions: what the page tells, the search of both slot questions, content and BFC. Definitions only.
-use Prim.Native.Nat.{ℕ, zero, suc, max}
+use Prim.Native.Nat.{ℕ, suc}
 use mathlib.Core.Bool.{Bool, true, false, _&&_, cond}
 use mathlib.Core.List.{List, [], _∷_}
 use lib.Dec.{ltb}
@@ -30,7 +30,7 @@ use Rattle.float.specs.Numbers.{size, offset, plusZero}
 use Rattle.float.specs.Refuse.{sideOf, clearOf, directionOf, checkOf}
 use Rattle.float.specs.Bands.{none, onSide, sameSide, lead, hasFloat, boxOn, lastEnd, firstBelow}
 use Rattle.float.specs.Page.{Page, front, noBox, maxBoxes}
-use Rattle.float.specs.Clear.{raiseTo, cleared, clearedPast}
+use Rattle.float.specs.Clear.{raiseTo, cleared}
 
 -- ---- what the page tells
 
@@ -79,29 +79,20 @@ floatsOf d p = listOf (ofSide d (p .boxes))
 
 -- ---- the search of both questions
 
--- the first band number allowed by `after`
+-- the first band number allowed, by `after` alone (2/14)
 abbrev pub from : BandNumber → ℕ
 from BandNumber.None = 0
 from (BandNumber.At k) = suc k
-
--- and by clear: a past-last above 0 asks for the band after it
-abbrev pub pastOver : ℕ → ℕ
-pastOver zero = zero
-pastOver (suc n) = suc (suc n)
-
--- the larger of the two
-abbrev pub allowedFrom : Page → Clear → BandNumber → ℕ
-allowedFrom p c after = max (from after) (pastOver (clearedPast p c))
 
 -- the band i at y, or past the last
 abbrev pub landed : List Segment → ℕ → Float → Sought
 landed l i y = cond (ltb i (length l)) (Sought.At i y) (Sought.Past y)
 
--- with no band below min_y clear isn't looked at
+-- with no band below min_y clear isn't looked at; else min_y is raised to the cleared bottoms
 unfoldable pub seek : Page → Clear → BandNumber → Float → Sought
 seek p c after y =
     cond (active (p .bands) y)
-    (landed (p .bands) (firstBelow (p .bands) (allowedFrom p c after) (raiseTo y (cleared p c))) (raiseTo y (cleared p c)))
+    (landed (p .bands) (firstBelow (p .bands) (from after) (raiseTo y (cleared p c))) (raiseTo y (cleared p c)))
     (Sought.Quiet y)
 
 -- the page width less left less right

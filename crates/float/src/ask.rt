@@ -44,8 +44,7 @@ fn quest_of(head: Head, check: Check, clear: Clear, after: BandNumber, y: f32) -
     let left = head.left_bottom;
     let right = head.right_bottom;
     let n = number::smaller_n(head.count, 96);
-    let past = clearing::cleared_past(head.left_past, head.right_past, clear);
-    let from = number::smaller_n(slot::first_allowed(after, past), n);
+    let from = number::smaller_n(slot::first_allowed(after), n);
     let above = clearing::raise_to(y, clearing::cleared(left, right, clear));
     Quest {
         check: check,

@@ -1,8 +1,8 @@
-// Clearing: the bottoms and the band numbers that a clear asks for. A page is not handed over: its two sides are.
+// Clearing: the bottoms that a clear asks for. A page is not handed over: its two sides are.
 ghost use mathlib.Core.Path.{_≡_};
 ghost use Rattle.float.specs.Page.{Page, pageOf};
 ghost use Rattle.float.specs.Slot.{clearedThreshold};
-ghost use Rattle.float.specs.Clear.{lower as lowerOf, raiseTo, cleared as clearedOf, clearedPast};
+ghost use Rattle.float.specs.Clear.{lower as lowerOf, raiseTo, cleared as clearedOf};
 use crate::Bottom;
 use crate::Clear;
 use crate::FloatContext;
@@ -40,17 +40,6 @@ pub fn cleared(left: Bottom, right: Bottom, clear: Clear) -> Bottom
         Clear::Left => left,
         Clear::Right => right,
         Clear::Both => lower(left, right),
-    }
-}
-
-pub fn cleared_past(left: usize, right: usize, clear: Clear) -> usize
-    ensures { λ r. ⌜ ((p : Page) → p .left .past ≡ left → p .right .past ≡ right → r ≡ clearedPast p clear) ⌝ }
-{
-    match clear {
-        Clear::None => 0,
-        Clear::Left => left,
-        Clear::Right => right,
-        Clear::Both => number::larger_n(left, right),
     }
 }
 

@@ -129,14 +129,7 @@ pub fn admit(
     let ceiling = head.ceiling;
     let top = clearing::raise_to(m, ceiling);
     let y = clearing::raise_to(top, clearing::cleared(left_bottom, right_bottom, k));
-    let first = place::first_allowed(
-        head.left_first,
-        head.left_past,
-        head.right_first,
-        head.right_past,
-        n,
-        k,
-    );
+    let first = number::larger_n(head.left_first, head.right_first);
     Admission {
         check: check,
         ask: ask,
@@ -183,9 +176,7 @@ fn head_after(head: Head, a: Ask, p: Plan) -> Head
         right_bottom: right,
         ceiling: top,
         left_first: place::number_after(side, FloatDirection::Left, head.left_first, p.first),
-        left_past: place::number_after(side, FloatDirection::Left, head.left_past, p.past),
         right_first: place::number_after(side, FloatDirection::Right, head.right_first, p.first),
-        right_past: place::number_after(side, FloatDirection::Right, head.right_past, p.past),
     }
 }
 
@@ -259,7 +250,7 @@ pub fn source(p: Plan, j: usize) -> usize
 pub fn shaped(p: Plan, a: Ask, j: usize, b: Segment) -> Segment
     ensures { λ r. ⌜ r ≡ shapedOf a p j b ⌝ }
 {
-    if j > p.past {
+    if j > p.rest {
         return b;
     }
     let k = plan::unsplit(p.splits, p.last, j);

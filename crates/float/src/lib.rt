@@ -108,9 +108,7 @@ pub struct FloatContext {
     pub right_bottom: Bottom,
     pub ceiling: Bottom,
     pub left_first: usize,
-    pub left_past: usize,
     pub right_first: usize,
-    pub right_past: usize,
 }
 
 // A page without its two arrays, for a holder that keeps those where they lie.
@@ -122,9 +120,7 @@ pub struct Head {
     pub right_bottom: Bottom,
     pub ceiling: Bottom,
     pub left_first: usize,
-    pub left_past: usize,
     pub right_first: usize,
-    pub right_past: usize,
 }
 
 // A placement's answer: x, y and the step count, or the refusal.

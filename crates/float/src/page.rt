@@ -100,9 +100,7 @@ impl FloatContext {
             right_bottom: Bottom::None,
             ceiling: Bottom::None,
             left_first: 0,
-            left_past: 0,
             right_first: 0,
-            right_past: 0,
         }
     }
 

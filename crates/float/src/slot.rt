@@ -1,9 +1,9 @@
 // What both slot questions share: where a search lands, two insets, the first band number allowed, the page's head; and whether floats are active.
 ghost use mathlib.Core.Path.{_≡_};
-ghost use Prim.Native.Nat.{suc, max, min};
+ghost use Prim.Native.Nat.{min};
 ghost use Rattle.float.specs.Head.{headOf};
 ghost use Rattle.float.specs.Page.{pageOf, maxBands};
-ghost use Rattle.float.specs.Slot.{from, pastOver, hasActiveFloats};
+ghost use Rattle.float.specs.Slot.{from, hasActiveFloats};
 use crate::BandNumber;
 use crate::FloatContext;
 use crate::Head;
@@ -25,29 +25,13 @@ pub struct Insets {
     pub right: f32,
 }
 
-// The band number after k. Past the last band all numbers ask for the same, so none wraps.
-fn number_after(k: usize) -> usize
-    ensures { λ r. ⌜ r ≡ min (suc k) maxBands ⌝ }
+// The first band number allowed. Past the last band all numbers ask for the same, so none wraps.
+pub fn first_allowed(after: BandNumber) -> usize
+    ensures { λ r. ⌜ r ≡ min (from after) maxBands ⌝ }
 {
-    number::smaller_n(k, 95) + 1
-}
-
-// The first number allowed by clear: a past-last of 0 says that no band was taken.
-fn past_over(past: usize) -> usize
-    ensures { λ r. ⌜ r ≡ min (pastOver past) maxBands ⌝ }
-{
-    let next = number_after(past);
-    if past == 0 { 0 } else { next }
-}
-
-// The first number allowed by after and by clear.
-pub fn first_allowed(after: BandNumber, past: usize) -> usize
-    ensures { λ r. ⌜ r ≡ min (max (from after) (pastOver past)) maxBands ⌝ }
-{
-    let cleared = past_over(past);
     match after {
-        BandNumber::None => cleared,
-        BandNumber::At(k) => number::larger_n(number_after(k), cleared),
+        BandNumber::None => 0,
+        BandNumber::At(k) => number::smaller_n(k, 95) + 1,
     }
 }
 
@@ -67,9 +51,7 @@ impl FloatContext {
             right_bottom: right,
             ceiling: ceiling,
             left_first: self.left_first,
-            left_past: self.left_past,
             right_first: self.right_first,
-            right_past: self.right_past,
         }
     }
 

@@ -16,10 +16,10 @@ use Rattle.float.specs.Refuse.{checkOf}
 use Rattle.float.specs.Answers.{Value, float, count, truth, missing, Said, refused, values, saidPlace, saidDone, saidContent, saidInnermost}
 use Rattle.float.specs.Bands.{splitAt, markAll, lastEnd, firstBelow}
 use Rattle.float.specs.Page.{pageOf, stored, front, freshContext}
-use Rattle.float.specs.Clear.{lower, raiseTo, cleared, clearedPast}
+use Rattle.float.specs.Clear.{lower, raiseTo, cleared}
 use Rattle.float.specs.Fit.{passes, placedAt, fits}
 use Rattle.float.specs.Search.{joined, taller, highTurn, joinTurn, endTurn, fitTurn, startTurn, search, searchFrom}
-use Rattle.float.specs.Place.{Call, lowest, firstAllowed, spotOf, walked, make, high, flat, put, admitted, checked, place, placeOf, widthCheck, setWidth, widthOf}
+use Rattle.float.specs.Place.{Call, lowest, spotOf, walked, make, high, flat, put, admitted, checked, place, placeOf, widthCheck, setWidth, widthOf}
 use Rattle.float.specs.Slot.{ContentCall, innermost, active, seek, contentSlot, content}
 use Rattle.tape.specs.Bytes.{f32At, digits, float as floatText, decimals, decimal, fields}
 use Rattle.tape.specs.Record.{afterAt, readOf}
@@ -118,7 +118,7 @@ firstLines =
 
 pub table : List Entry
 table =
-    -- 1: two bands; 2; 3, clearing left
+    -- 1: two bands; 2; 3, clearing left, below the left box and beside the right one (2/14), as does a content question
     -- 1/14: the gap above names no box, a band added below the new one alone; a band that is not there, and an unknown side
     fresh
     ∷ left 10 10 0 0 0
@@ -130,7 +130,8 @@ table =
     ∷ right 10 30 90 0 1
     ∷ names 1 (count 0) (count 1)
     ∷ names 2 missing (count 1)
-    ∷ full 0 1 (n 10) (n 5) (n 0) (n 0) (n 0) (at 0 30 0)
+    ∷ ask 0 1 (count 2) 0 10 90
+    ∷ full 0 1 (n 10) (n 5) (n 0) (n 0) (n 0) (at 0 10 0)
     -- 4; 1/14: the box after it is the third
     ∷ fresh
     ∷ left 100 10 0 0 0
@@ -173,5 +174,5 @@ table =
     ∷ []
 
 pub marked-examples : holds table freshContext ≡ true
-unfolding innermost holds same allWritten table firstTape firstLines pageOf stored front freshContext lower raiseTo cleared clearedPast splitAt markAll lastEnd firstBelow passes placedAt fits joined taller highTurn joinTurn endTurn fitTurn startTurn search searchFrom plusZero finite within inReach allFinite allAllowed checkOf lowest firstAllowed spotOf walked make high flat put admitted checked place placeOf widthCheck setWidth widthOf active seek contentSlot content f32At digits floatText decimals decimal fields afterAt readOf refusedLine doneLine placeLine band contentLine freshState stepOf run linesOf larger smaller zero+ tol add sub lt le eq ofBits ofFields ofInt neg toBits sum round units odd size span climb trailingZeros
+unfolding innermost holds same allWritten table firstTape firstLines pageOf stored front freshContext lower raiseTo cleared splitAt markAll lastEnd firstBelow passes placedAt fits joined taller highTurn joinTurn endTurn fitTurn startTurn search searchFrom plusZero finite within inReach allFinite allAllowed checkOf lowest spotOf walked make high flat put admitted checked place placeOf widthCheck setWidth widthOf active seek contentSlot content f32At digits floatText decimals decimal fields afterAt readOf refusedLine doneLine placeLine band contentLine freshState stepOf run linesOf larger smaller zero+ tol add sub lt le eq ofBits ofFields ofInt neg toBits sum round units odd size span climb trailingZeros
 marked-examples = refl

@@ -66,7 +66,7 @@ pub record Leaves (t : Told State) (s : State) (l : List ℕ) (i : ℕ) (m : Lis
 
 -- the head of a fresh page
 abbrev pub freshHead : Head
-freshHead = record { width = zero+; count = 0; «box_count» = 0; «left_bottom» = Bottom.None; «right_bottom» = Bottom.None; ceiling = Bottom.None; «left_first» = 0; «left_past» = 0; «right_first» = 0; «right_past» = 0 }
+freshHead = record { width = zero+; count = 0; «box_count» = 0; «left_bottom» = Bottom.None; «right_bottom» = Bottom.None; ceiling = Bottom.None; «left_first» = 0; «right_first» = 0 }
 
 -- what was read is a placement that refusals 1, 2, 3 and 5 let pass
 pub record Places (h : Head) (r : Read) (a : Admission) : Type 0 where

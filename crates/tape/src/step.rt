@@ -390,9 +390,7 @@ pub fn fresh_head() -> Head
         right_bottom: Bottom::None,
         ceiling: Bottom::None,
         left_first: 0,
-        left_past: 0,
         right_first: 0,
-        right_past: 0,
     }
 }
 

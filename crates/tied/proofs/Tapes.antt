@@ -15,12 +15,12 @@ use Rattle.float.specs.declared.PlaceAnswer.{PlaceAnswer}
 use Rattle.float.specs.Refuse.{sideOf}
 use Rattle.float.specs.Bands.{sameSide, hasFloat, boxOn, lead, none}
 use Rattle.float.specs.Page.{pageOf}
-use Rattle.float.specs.Place.{Call, placeOf}
-use Rattle.float.specs.Slot.{innermost}
+use Rattle.float.specs.Place.{Call, cleaned, placeOf}
+use Rattle.float.specs.Slot.{active, innermost, ContentCall, contentCleaned, content, BfcCall, bfcCleaned, bfc}
 use Rattle.tape.specs.Record.{placeRecord}
 use Rattle.tape.specs.Tape.{returnedBox, innermostAfter}
-use Rattle.demands.specs.Runs.{Each, Pairs, boxIn, run, pageIn, bandsIn, Stays, Handed, Whole64, NoSmaller, EdgeToEdge, sideIn, containingLead, containingTrail, sized, shareHeight, overlap, present, Names, farInset, Holds, StandsAt, F32, Page64}
-use Rattle.demands.proofs.Promises.{bands-lie, boxes-kept, no-inset-smaller, two-bands-more, steps-at-most, rule-1, rule-5, number-with-mark, number-names, innermost-told, page-in-64ths, rule-7, no-overlap, none-further-in, unmarked-free}
+use Rattle.demands.specs.Runs.{Each, Pairs, boxIn, run, pageIn, bandsIn, Stays, Handed, Whole64, NoSmaller, EdgeToEdge, sideIn, containingLead, containingTrail, sized, shareHeight, overlap, present, Names, farInset, Holds, StandsAt, F32, unclear, contentUnclear, bfcUnclear, Raises, Page64}
+use Rattle.demands.proofs.Promises.{bands-lie, boxes-kept, no-inset-smaller, two-bands-more, steps-at-most, rule-1, rule-5, number-with-mark, number-names, innermost-told, clear-placement, clear-content, clear-bfc, page-in-64ths, rule-7, no-overlap, none-further-in, unmarked-free}
 use Rattle.tied.specs.Acts.{recordsOf, RecordAt, callsAt, runAt, wholeRun, callsNext}
 use Rattle.tied.proofs.Handed.{tape-f32, next-f32}
 use Rattle.tied.proofs.Calls.{run-next, run-one, page-after-tape, returned-number}
@@ -67,6 +67,18 @@ tape-number-names t n = number-names (callsAt t n)
 pub tape-innermost : (t : List ℕ) → length t ≤ 65536 → (i s k : ℕ) → innermostAfter t i s ≡ pos k → Names (wholeRun t .accepted) (sideOf s) (getD (bandsIn (wholeRun t)) i none) k
 unfolding innermostAfter
 tape-innermost t h i s k e = innermost-told (callsAt t (length (recordsOf t))) i s k (returned-number _ k (ap (λ (p : FloatContext). returnedBox (innermost (pageOf p) (BandNumber.At i) s)) (sym (page-after-tape t h)) ∙ e))
+
+-- a call with any clear is the one without clear at min_y raised to the cleared bottoms: a placement, and a question that passes the early answer
+pub tape-clear-placement : (t : List ℕ) (n : ℕ) (c : Call) → F32 (c .minY) → Raises (pageIn (runAt t n)) (c .clear) (cleaned c .minY) → placeOf (runAt t n .struct) c ≡ placeOf (runAt t n .struct) (unclear (pageIn (runAt t n)) (cleaned c))
+tape-clear-placement t n c = clear-placement (callsAt t n) c (tape-f32 t n)
+
+pub tape-clear-content : (t : List ℕ) (n : ℕ) (c : ContentCall) → F32 (c .minY) → Raises (pageIn (runAt t n)) (c .clear) (contentCleaned c .minY) → active (bandsIn (runAt t n)) (contentCleaned c .minY) ≡ true
+    → content (pageIn (runAt t n)) c ≡ content (pageIn (runAt t n)) (contentUnclear (pageIn (runAt t n)) (contentCleaned c))
+tape-clear-content t n c = clear-content (callsAt t n) c (tape-f32 t n)
+
+pub tape-clear-bfc : (t : List ℕ) (n : ℕ) (c : BfcCall) → F32 (c .minY) → Raises (pageIn (runAt t n)) (c .clear) (bfcCleaned c .minY) → active (bandsIn (runAt t n)) (bfcCleaned c .minY) ≡ true
+    → bfc (pageIn (runAt t n)) c ≡ bfc (pageIn (runAt t n)) (bfcUnclear (pageIn (runAt t n)) (bfcCleaned c))
+tape-clear-bfc t n c = clear-bfc (callsAt t n) c (tape-f32 t n)
 
 -- ---- if every number that they handed in was whole 64ths
 

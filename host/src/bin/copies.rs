@@ -6,10 +6,11 @@
 mod run {
     use host::archive::Runner;
     use host::call::Call;
-    use host::float::FloatContext;
+    use host::float_read::FloatContext;
     use host::grouped;
     use host::rows::{self, Run, SIZES};
     use host::tape::Record;
+    use host::Clear;
     use std::alloc::{GlobalAlloc, Layout, System};
     use std::arch::asm;
     use std::mem::size_of;
@@ -79,7 +80,8 @@ mod run {
             match Call::of(record).expect("accepted") {
                 Call::Width(width) => page.set_width(width),
                 Call::Place(of) => {
-                    page.place_floated_box(of.size, of.min_y, of.insets, of.side, of.clear);
+                    let min_y = page.raised(of.min_y, of.clear);
+                    page.place_floated_box(of.size, min_y, of.insets, of.side, Clear::None);
                 }
                 _ => {}
             }
@@ -88,7 +90,7 @@ mod run {
     }
 
     /// The archive's page: bands, boxes, and the fields beside them.
-    const PAGE: usize = 96 * 24 + 64 * 20 + 80;
+    const PAGE: usize = 96 * 24 + 64 * 20 + 64;
 
     fn pages() {
         println!("| a page of | archive, bytes | crate, bytes |");

@@ -64,7 +64,7 @@ mod tried {
             all.extend(cases.into_iter().step_by(step).map(|case| tried(name, case.tape, &case.rooms)));
         }
         for page in tapes::troubled_pages() {
-            all.extend(tapes::faults(&page).into_iter().map(|tape| tried("faults", tape, &[])));
+            all.extend(tapes::faults(&page, 1).into_iter().map(|tape| tried("faults", tape, &[])));
         }
         let mut random = Random(11);
         let kinds: [fn(&mut Random) -> Vec<Record>; 6] =

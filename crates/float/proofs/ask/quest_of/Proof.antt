@@ -10,9 +10,6 @@ use Rattle.float.proofs.ask.quest_of.Tie as tie
 smaller-n-requires : tie.Need-smaller-n-requires
 smaller-n-requires c κs = search needs
 
-cleared-past-requires : tie.Need-cleared-past-requires
-cleared-past-requires c κs = search needs
-
 first-allowed-requires : tie.Need-first-allowed-requires
 first-allowed-requires c κs = search needs
 
@@ -28,15 +25,14 @@ raise-to-requires c κs = search needs
 returns : tie.Need-returns
 unfolding pageOf
 returns c = let p = c .before .before .before .before in
-    let a = p .before .before .args in
-    quest-made (a .head) (a .check) (a .clear) (a .after) (a .y) (p .before .smaller-n .ensures) (p .cleared-past .ensures (pageIn (a .head) [] []) refl refl) (c .before .before .before .first-allowed .ensures) (c .before .before .smaller-n2 .ensures) (c .before .cleared .ensures (pageIn (a .head) [] []) refl refl) (c .raise-to .ensures)
+    let a = p .before .args in
+    quest-made (a .head) (a .check) (a .clear) (a .after) (a .y) (p .smaller-n .ensures) (c .before .before .before .first-allowed .ensures) (c .before .before .smaller-n2 .ensures) (c .before .cleared .ensures (pageIn (a .head) [] []) refl refl) (c .raise-to .ensures)
 
 pub quest-of-spec : {M : Type 1} → statement M
 quest-of-spec =
     tie.close
     (tie.spec
     smaller-n-requires
-    cleared-past-requires
     first-allowed-requires
     smaller-n-requires-2
     cleared-requires

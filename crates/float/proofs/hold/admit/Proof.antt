@@ -46,8 +46,8 @@ cleared-requires c κs = search needs
 raise-to-requires-2 : tie.Need-raise-to-requires-2
 raise-to-requires-2 c κs = search needs
 
-first-allowed-requires : tie.Need-first-allowed-requires
-first-allowed-requires c κs = search needs
+larger-n-requires : tie.Need-larger-n-requires
+larger-n-requires c κs = search needs
 
 returns : tie.Need-returns
 returns c =
@@ -67,7 +67,7 @@ returns c =
     _ (c .before .before .before .raise-to .ensures)
     _ (c .before .before .cleared .ensures)
     _ (c .before .raise-to2 .ensures)
-    _ (c .first-allowed .ensures)
+    _ (c .larger-n .ensures)
 
 pub admit-spec : {M : Type 1} → statement M
 admit-spec =
@@ -87,5 +87,5 @@ admit-spec =
     raise-to-requires
     cleared-requires
     raise-to-requires-2
-    first-allowed-requires
+    larger-n-requires
     returns)

@@ -25,24 +25,16 @@ number-after-requires c κs = search needs
 number-after-requires-2 : tie.Need-number-after-requires-2
 number-after-requires-2 c κs = search needs
 
-number-after-requires-3 : tie.Need-number-after-requires-3
-number-after-requires-3 c κs = search needs
-
-number-after-requires-4 : tie.Need-number-after-requires-4
-number-after-requires-4 c κs = search needs
-
 returns : tie.Need-returns
 returns c =
-    let s = c .before .before .before .before .before .before .before .before .before .before .args in
+    let s = c .before .before .before .before .before .before .before .before .args in
     head-code (s .head) (s .a) (s .p)
-    (c .before .before .before .before .before .before .before .bottom-after .ensures)
-    (c .before .before .before .before .before .before .bottom-after2 .ensures)
-    (c .before .before .before .before .before .lower .ensures)
-    (c .before .before .before .before .smaller-n .ensures)
-    (c .before .before .before .number-after .ensures)
-    (c .before .before .number-after2 .ensures)
-    (c .before .number-after3 .ensures)
-    (c .number-after4 .ensures)
+    (c .before .before .before .before .before .bottom-after .ensures)
+    (c .before .before .before .before .bottom-after2 .ensures)
+    (c .before .before .before .lower .ensures)
+    (c .before .before .smaller-n .ensures)
+    (c .before .number-after .ensures)
+    (c .number-after2 .ensures)
 
 pub head-after-spec : {M : Type 1} → statement M
 head-after-spec =
@@ -55,6 +47,4 @@ head-after-spec =
     add-t15
     number-after-requires
     number-after-requires-2
-    number-after-requires-3
-    number-after-requires-4
     returns)
