@@ -118,7 +118,7 @@ firstLines =
 
 pub table : List Entry
 table =
-    -- 1: two bands; 2; 3, clearing left, below the left box and beside the right one (2/14), as does a content question
+    -- 1: two bands; 2; 3, clearing left: below the left box and beside the right one (2/14), and before it a content question that lands there
     -- 1/14: the gap above names no box, a band added below the new one alone; a band that is not there, and an unknown side
     fresh
     ∷ left 10 10 0 0 0
