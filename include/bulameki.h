@@ -1,11 +1,12 @@
 /* The C face of Bulameki: bulameki_run_tape runs a tape of calls that place floated boxes on a page, and writes one line
-   a call; bulameki_innermost tells which box stands innermost in a band of the page after a tape.
+   a call; bulameki_innermost tells which box stands innermost in a band of the page after a tape, and bulameki_depth how
+   deep that page is.
 
    x86-64 only, for C99 and C++. The archive, target/staticlib/libpanel.a, needs nothing at link time but memcpy and
    memset. Nothing is kept from one call to the next, and nothing but the answers is written: several threads may call at
    once, each with an answer room of its own.
 
-   WHAT A CALL NEEDS, of either function.
+   WHAT A CALL NEEDS, of each function.
      - Stack: at most BULAMEKI_STACK bytes, whatever the tape. Up to 128 bytes below the stack pointer are in use
        without being reserved (the red zone of the x86-64 ABI), so an interrupt handler may not push onto this stack,
        unless it first steps over them. No heap, no static memory.
@@ -19,7 +20,7 @@
      - A tape that holds still. Copy one that can change meanwhile (worn flash, DMA, another thread) to RAM first. A tape
        of which a byte changes during the call gives any lines, or -13 with lines left in the room; nothing is written
        past the room even then. In a room of BULAMEKI_ROOM the tape is run once, in a shorter one twice.
-       bulameki_innermost runs it once, and gives any answer where a byte changes.
+       bulameki_innermost and bulameki_depth run it once, and give any answer where a byte changes.
 
    THE TAPE. A record is one byte of kind, then a body of fixed length. f32 and u16 are little-endian, codes are bytes.
 
@@ -73,10 +74,10 @@ extern "C" {
 #endif
 
 /* This header and the archive are of one version; CHANGELOG.md says what each brought. */
-#define BULAMEKI_VERSION "0.4.0"
+#define BULAMEKI_VERSION "0.5.0"
 
 /* The deepest stack of a call in bytes, its return address counted: measured, as docs/SPEED.md says. */
-#define BULAMEKI_STACK 5280
+#define BULAMEKI_STACK 5312
 
 enum bulameki_kind {
     BULAMEKI_NEW = 0,
@@ -156,27 +157,36 @@ enum bulameki_refusal {
    gives n = 24 and the two lines "W" and "P 00000000 00000000 0". A whole program is examples/c/page.c. */
 int64_t bulameki_run_tape(const uint8_t *tape, size_t tape_len, uint8_t *answers, size_t room);
 
-/* What bulameki_innermost returns where no box stands. */
+/* Two functions tell of the page after the tape_len bytes at tape, as far as the tape runs: up to the record where
+   the line T is given; a tape longer than 65,536 bytes runs no record, and leaves a fresh page. They write nothing. The
+   pointer may be null where the length is 0. */
+
+/* What they return where no box is. */
 #define BULAMEKI_NONE (-100)
 
-/* What it returns for a side that is neither BULAMEKI_LEFT nor BULAMEKI_RIGHT. */
+/* What bulameki_innermost returns for a side that is neither BULAMEKI_LEFT nor BULAMEKI_RIGHT. */
 #define BULAMEKI_RETURNS_UNKNOWN_SIDE (-(int64_t)BULAMEKI_UNKNOWN_CODE)
 
-/* Which box stands innermost in a band, on a side of the page after the tape_len bytes at tape: the box that was last
-   recorded there. Returns its number, or BULAMEKI_NONE where the band has no float on that side, and where there is no
-   such band. An unknown side returns -1, whatever the tape. There is no other failure, and nothing is written.
+/* Which box stands innermost in a band, on a side: the box that was last recorded there. Returns its number, or
+   BULAMEKI_NONE where the band has no float on that side, and where there is no such band. An unknown side returns -1,
+   whatever the tape. There is no other failure.
 
    A box's number counts the P lines since the last fresh page, from 0 and over both sides; a box of no height has one
    too, but stands in no band. The band's number is the one that the lines C and B answer: it holds until the next box is
-   accepted, so ask with the same tape, or one on which no box was accepted since. The page is that after the tape as far
-   as it runs: up to the record where the line T is given; a tape longer than 65,536 bytes runs no record, and its page
-   has no band.
-
-   The pointer may be null where the length is 0. On the tape above the left box stands in band 1:
+   accepted, so ask with the same tape, or one on which no box was accepted since. On the tape above the left box stands
+   in band 1:
 
        bulameki_innermost(tape, sizeof tape, 1, BULAMEKI_LEFT)     // 0
        bulameki_innermost(tape, sizeof tape, 1, BULAMEKI_RIGHT)    // BULAMEKI_NONE */
 int64_t bulameki_innermost(const uint8_t *tape, size_t tape_len, size_t band, uint8_t side);
+
+/* How deep the page is, as a scroll bar needs it: the largest bottom (y plus height, rounded) of all boxes accepted
+   since the last fresh page, those of no height too. Returns the float's 32 bits, a value from 0 up to 4,294,967,295, so
+   that bulameki_float((uint32_t)n) is the depth; where all boxes end above 0 it is negative, and the sign bit is set.
+   Returns BULAMEKI_NONE where no box was accepted. There is no failure. On the tape above:
+
+       bulameki_depth(tape, sizeof tape)                           // 0x41F00000, the bits of 30 */
+int64_t bulameki_depth(const uint8_t *tape, size_t tape_len);
 
 /* A float of these bits, and the bits of a float. */
 static inline float bulameki_float(uint32_t bits)

@@ -21,10 +21,9 @@ import shutil
 import sys
 from pathlib import Path
 
-from edits import ROOT, SCRATCH, copy_crates, dev, first_error, read_edit, verdict
+from edits import JOBS, ROOT, SCRATCH, copy_crates, dev, first_error, read_edit, spread, verdict
 
 COPY = ROOT / "target" / "definitions"
-PROOFS = SCRATCH / "1"
 TABLE, PROMISES, REFUSALS, PROOF = "the table", "the promises", "the refusals", "a proof"
 
 
@@ -37,15 +36,25 @@ def types_of(text):
     return "// Types alone.\n" + "".join(re.findall(r"^(?:pub )?mod \w+;\n", text, re.M) + uses + items)
 
 
-def copy_definitions():
+def definitions(job):
+    """Where a job asks the first three judges."""
+    return COPY / str(job)
+
+
+def proofs(job):
+    """Where it asks the last."""
+    return SCRATCH / str(job)
+
+
+def copy_definitions(where):
     """A repository of definitions, with the table, said to come out false, the promises and the refusals above them."""
-    copy_crates(COPY)
+    copy_crates(where)
     for name in ("float", "tape"):
-        crate = COPY / "crates" / name
+        crate = where / "crates" / name
         shutil.rmtree(crate / "proofs")
         for source in crate.glob("src/*.rt"):
             source.write_text(types_of(source.read_text()))
-    table = COPY / "crates" / "marked" / "specs" / "Table.antt"
+    table = where / "crates" / "marked" / "specs" / "Table.antt"
     text, count = re.subn(r"^(pub marked-examples : .*) true$", r"\1 false", table.read_text(), flags=re.M)
     if count != 1:
         raise SystemExit("definitions: the theorem marked-examples has another form")
@@ -69,32 +78,32 @@ def tried(where, name, path, asked):
             target.write_text(text)
 
 
-def refused_by_table(name, path):
+def refused_by_table(job, name, path):
     """The examples come out false; an error elsewhere tells nothing of them."""
-    said = tried(COPY, name, path, "marked")
+    said = tried(definitions(job), name, path, "marked")
     if verdict(said) == "logic=not-proved" and "Table.antt" not in said:
         raise ValueError(f"it is no definition: {first_error(said)[:200]}")
     return "the examples come out false" if verdict(said) == "logic=proved" else ""
 
 
-def refused_by_theorems(asked, name, path):
+def refused_by_theorems(asked, job, name, path):
     """A proof of the crate `asked` fails, and not for a name that is gone."""
-    said = tried(COPY, name, path, asked)
+    said = tried(definitions(job), name, path, asked)
     words = first_error(said)
     return words if verdict(said) == "logic=not-proved" and f"/{asked}/proofs/" in said and "not in scope" not in words else ""
 
 
 @functools.cache
-def proved(name):
+def proved(job, name):
     """The crate is proved without a change, where the edits are tried."""
-    if verdict(dev(PROOFS, name)) != "logic=proved":
+    if verdict(dev(proofs(job), name)) != "logic=proved":
         raise SystemExit(f"definitions: {name} is not proved as it stands")
 
 
-def refused_by_proof(name, path):
+def refused_by_proof(job, name, path):
     """A proof of the crate itself fails."""
-    proved(name)
-    said = tried(PROOFS, name, path, name)
+    proved(job, name)
+    said = tried(proofs(job), name, path, name)
     return first_error(said) if verdict(said) == "logic=not-proved" else ""
 
 
@@ -102,14 +111,14 @@ JUDGES = ((TABLE, refused_by_table), (PROMISES, functools.partial(refused_by_the
           (REFUSALS, functools.partial(refused_by_theorems, "refusals")), (PROOF, refused_by_proof))
 
 
-def judged(name, path, ask_all):
+def judged(job, name, path, ask_all):
     """Who refuses the definition, and in which words; the judge that it names is asked first."""
     named = re.search(r"^by: (.*)$", path.read_text(), re.M)
     named = named.group(1) if named else ""
     by = {}
     for judge, ask in sorted(JUDGES, key=lambda pair: pair[0] != named):
         if not by or ask_all:
-            words = ask(name, path)
+            words = ask(job, name, path)
             if words:
                 by[judge] = words
     if named and named not in by:
@@ -125,25 +134,33 @@ def main():
     words = words.parse_args()
     edits = [(path.parts[-3], path) for path in sorted(ROOT.glob("crates/*/definitions/*.edit"))
              if not words.labels or f"{path.parts[-3]}/{path.stem}" in words.labels]
-    copy_definitions()
-    copy_crates(PROOFS)
-    if verdict(dev(COPY, "marked")) != "logic=not-proved":
+    first = definitions(1)
+    copy_definitions(first)
+    if verdict(dev(first, "marked")) != "logic=not-proved":
         raise SystemExit("definitions: the marked examples come out false as they stand")
     for name, what in (("demands", PROMISES), ("refusals", REFUSALS)):
-        if verdict(dev(COPY, name)) != "logic=proved":
+        if verdict(dev(first, name)) != "logic=proved":
             raise SystemExit(f"definitions: {what} are not proved as they stand")
-    rows, failed = [], []
-    for name, path in edits:
+    jobs = min(JOBS, len(edits))
+    for job in range(1, jobs + 1):
+        copy_crates(proofs(job))
+        if job > 1:
+            shutil.rmtree(definitions(job), ignore_errors=True)
+            shutil.copytree(first, definitions(job))
+
+    def tell(job, edit):
+        name, path = edit
         label, by = f"{name}/{path.stem}", {}
         try:
-            by = judged(name, path, words.all)
+            by = judged(job, name, path, words.all)
             told = "refused by " + " and ".join(by) if by else "NOT REFUSED"
         except ValueError as why:
             told = f"BAD EDIT: {why}"
-        if not by:
-            failed.append(label)
         print(f"definition {label}: {told}", flush=True)
-        rows.append((label, path.read_text().splitlines()[0], " and ".join(by)))
+        return label, path.read_text().splitlines()[0], " and ".join(by)
+
+    rows = spread(edits, jobs, tell)
+    failed = [label for label, _, by in rows if not by]
     if words.markdown:
         head = "| Definition | What it says | Refused by |\n|---|---|---|\n"
         words.markdown.write_text(head + "".join("| " + " | ".join(row) + " |\n" for row in rows))

@@ -6,22 +6,25 @@ stands there exactly once) and `new: text`; several pairs may follow. rt tries a
 a whole check of its crate, a minute and more for `float`. Here each edit is checked over what is
 proved already (`rt dev`), in seconds: a refusal is a refusal either way, and the crate without the
 edit must be proved first. An edit that only makes a proof file unfit for the code ("has no
-`Need-..`") shows nothing and counts as a failure.
+`Need-..`"), or the code such as the kit does not cover ("has no `Tie`"), shows nothing and counts
+as a failure.
 
 usage: edits.py [NAME[/LABEL] ..]   (from the repository's root; no name: every crate that has edits)
 """
+import concurrent.futures
 import itertools
 import os
+import queue
 import re
 import shutil
 import subprocess
 import sys
-import threading
 from pathlib import Path
 
 ROOT = Path(__file__).resolve().parent.parent
 SCRATCH = ROOT / "target" / "edits"
 JOBS = int(os.environ.get("RT_JOBS", "2"))
+UNFIT = ("has no `Need-", "has no `Tie`", "has no field")
 
 
 def read_edit(path):
@@ -100,9 +103,26 @@ def try_edit(where, name, path):
         return False, "NOT REFUSED: the crate is still proved with this edit"
     if verdict(said) != "logic=not-proved":
         return False, f"BAD EDIT: it did not reach the prover: {words}"
-    if "has no `Need-" in words or "has no field" in words:
+    if any(sign in words for sign in UNFIT):
         return False, f"SHOWS NOTHING: {words}"
     return True, f"refused: {words[:200]}"
+
+
+def spread(items, jobs, one):
+    """one(job, item) of each item in order, so many at a time; no two with the same job, counted from 1, run at once."""
+    free = queue.SimpleQueue()
+    for job in range(1, jobs + 1):
+        free.put(job)
+
+    def run(item):
+        job = free.get()
+        try:
+            return one(job, item)
+        finally:
+            free.put(job)
+
+    with concurrent.futures.ThreadPoolExecutor(max(jobs, 1)) as pool:
+        return list(pool.map(run, items))
 
 
 def main():
@@ -112,41 +132,26 @@ def main():
         name, label = path.parts[-3], path.stem
         if not wanted or name in wanted or f"{name}/{label}" in wanted:
             edits.append((name, label, path))
-    lock, failed, done = threading.Lock(), [], []
-    queue = list(edits)
-
-    def base(where):
-        copy_crates(where)
-        for name in sorted({name for name, _, _ in edits}):
-            if verdict(dev(where, name)) != "logic=proved":
-                raise SystemExit(f"edits: {name} is not proved without an edit")
-
-    def work(where):
-        while True:
-            with lock:
-                if not queue:
-                    return
-                name, label, path = queue.pop(0)
-            good, words = try_edit(where, name, path)
-            with lock:
-                (done if good else failed).append(f"{name}/{label}")
-                print(f"edit {name}/{label}: {words}", flush=True)
-
+    jobs = min(JOBS, len(edits))
     if edits:
         first = SCRATCH / "1"
-        base(first)
-        threads = []
-        for job in range(1, min(JOBS, len(edits)) + 1):
-            where = SCRATCH / str(job)
-            if job > 1:
-                shutil.rmtree(where, ignore_errors=True)
-                shutil.copytree(first, where)
-            threads.append(threading.Thread(target=work, args=(where,)))
-        for thread in threads:
-            thread.start()
-        for thread in threads:
-            thread.join()
-    print(f"edits: {len(done)} refused, {len(failed)} not{': ' + ' '.join(failed) if failed else ''}")
+        copy_crates(first)
+        for name in sorted({name for name, _, _ in edits}):
+            if verdict(dev(first, name)) != "logic=proved":
+                raise SystemExit(f"edits: {name} is not proved without an edit")
+        for job in range(2, jobs + 1):
+            shutil.rmtree(SCRATCH / str(job), ignore_errors=True)
+            shutil.copytree(first, SCRATCH / str(job))
+
+    def tried(job, edit):
+        name, label, path = edit
+        good, words = try_edit(SCRATCH / str(job), name, path)
+        print(f"edit {name}/{label}: {words}", flush=True)
+        return good
+
+    good = spread(edits, jobs, tried)
+    failed = [f"{name}/{label}" for (name, label, _), passed in zip(edits, good) if not passed]
+    print(f"edits: {len(edits) - len(failed)} refused, {len(failed)} not{': ' + ' '.join(failed) if failed else ''}")
     return 1 if failed or not edits else 0
 
 

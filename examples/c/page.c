@@ -1,5 +1,5 @@
 /* A page laid out from C: builds a tape in memory, runs it, reads the answer lines back into numbers, and asks which boxes
-   stand beside the text. */
+   stand beside the text and how deep the page is. */
 #include <inttypes.h>
 #include <stdio.h>
 #include <stdlib.h>
@@ -142,6 +142,16 @@ static void print_touched(const struct tape *tape, size_t band)
     }
 }
 
+/* Says how far down the scroll bar goes. */
+static void print_depth(const uint8_t *tape, size_t len)
+{
+    int64_t depth = bulameki_depth(tape, len);
+    if (depth == BULAMEKI_NONE)
+        printf("no box to scroll to\n");
+    else
+        printf("scrolls down to %g\n", bulameki_float((uint32_t)depth));
+}
+
 int main(void)
 {
     struct tape tape = {{0}, 0};
@@ -189,6 +199,10 @@ int main(void)
         print_touched(&tape, band);
     printf("an unknown side: %" PRId64 "\n", bulameki_innermost(tape.bytes, tape.len, 0, 2));
 
+    /* The first record, of five bytes, is the page width: no box stands yet. */
+    print_depth(tape.bytes, 5);
+    print_depth(tape.bytes, tape.len);
+
     /* One byte too little: nothing at all is written. */
     memset(answers, 0xEE, sizeof answers);
     printf("one byte less of room: %" PRId64, bulameki_run_tape(tape.bytes, tape.len, answers, (size_t)written - 1));
@@ -200,5 +214,6 @@ int main(void)
     printf("no tape, no room: %" PRId64 "\n", bulameki_run_tape(NULL, 0, NULL, 0));
     printf("a tape, no room: %" PRId64 "\n", bulameki_run_tape(tape.bytes, tape.len, NULL, 0));
     printf("no tape, no band: %" PRId64 "\n", bulameki_innermost(NULL, 0, 0, BULAMEKI_LEFT));
+    printf("no tape, no depth: %" PRId64 "\n", bulameki_depth(NULL, 0));
     return 0;
 }

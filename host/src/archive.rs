@@ -6,7 +6,10 @@ pub type Runner = fn(&[u8], &mut [u8]) -> i64;
 /// Which box stands innermost in a band on a side, after a tape: its number, or one of the two below.
 pub type Innermost = fn(&[u8], usize, u8) -> i64;
 
-/// Given where the band has no float on that side, and where there is no such band.
+/// How deep the page after a tape is: the 32 bits of an f32, or NO_BOX.
+pub type Depth = fn(&[u8]) -> i64;
+
+/// Given where the band has no float on that side, where there is no such band, and where no box was accepted.
 pub const NO_BOX: i64 = -100;
 
 /// Given for a side that is neither 0 nor 1: minus refusal 1.
@@ -16,6 +19,7 @@ pub const UNKNOWN_SIDE: i64 = -1;
 extern "C" {
     fn bulameki_run_tape(tape: *const u8, tape_len: usize, answers: *mut u8, room: usize) -> i64;
     fn bulameki_innermost(tape: *const u8, tape_len: usize, band: usize, side: u8) -> i64;
+    fn bulameki_depth(tape: *const u8, tape_len: usize) -> i64;
 }
 
 /// `bulameki_run_tape` of the archive that ships, where it is linked.
@@ -34,6 +38,28 @@ pub fn innermost() -> Option<Innermost> {
     return Some(|tape, band, side| unsafe { bulameki_innermost(tape.as_ptr(), tape.len(), band, side) });
     #[cfg(not(has_panel))]
     None
+}
+
+/// `bulameki_depth` of the same archive.
+pub fn depth() -> Option<Depth> {
+    // SAFETY: as above.
+    #[cfg(has_panel)]
+    return Some(|tape| unsafe { bulameki_depth(tape.as_ptr(), tape.len()) });
+    #[cfg(not(has_panel))]
+    None
+}
+
+/// The functions of an archive; those that are none are not compared.
+#[derive(Clone, Copy, Default)]
+pub struct Functions {
+    pub run: Option<Runner>,
+    pub innermost: Option<Innermost>,
+    pub depth: Option<Depth>,
+}
+
+/// Those of the archive that ships.
+pub fn functions() -> Functions {
+    Functions { run: panel(), innermost: innermost(), depth: depth() }
 }
 
 /// Room that is surely enough for the lines of a tape, as the C header reckons it.
@@ -88,6 +114,13 @@ pub fn innermost_of_nothing(band: usize, side: u8) -> i64 {
     unsafe { bulameki_innermost(std::ptr::null(), 0, band, side) }
 }
 
+/// `bulameki_depth` with the same.
+#[cfg(has_panel)]
+pub fn depth_of_nothing() -> i64 {
+    // SAFETY: as above.
+    unsafe { bulameki_depth(std::ptr::null(), 0) }
+}
+
 /// `bulameki_run_tape` on a tape that others may change meanwhile, into room that nothing else refers to.
 ///
 /// # Safety
@@ -112,10 +145,17 @@ pub fn innermost_stack(tape: &[u8], band: usize, side: u8) -> usize {
     unsafe { stack(bulameki_innermost as *const (), tape, band, usize::from(side)) }
 }
 
-/// How deep the stack of a call with a tape and two further arguments is: it runs on a painted one.
+/// That of `bulameki_depth`.
+#[cfg(has_panel)]
+pub fn depth_stack(tape: &[u8]) -> usize {
+    // SAFETY: it takes no third and no fourth.
+    unsafe { stack(bulameki_depth as *const (), tape, 0, 0) }
+}
+
+/// How deep the stack of a call with a tape and up to two further arguments is: it runs on a painted one.
 ///
 /// # Safety
-/// It is a C function that takes the tape as pointer and length, then these two.
+/// It is a C function that takes the tape as pointer and length, then these two or fewer.
 #[cfg(has_panel)]
 unsafe fn stack(call: *const (), tape: &[u8], third: usize, fourth: usize) -> usize {
     const PAINT: u8 = 0xA5;

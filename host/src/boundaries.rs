@@ -1,7 +1,7 @@
 //! Each constant of document 01 where it is tested: tapes at it, one step below and one above, with the end of each answer.
 
 use crate::tape::{body_length, bytes, Field, Record, BODIES, LONGEST, NONE};
-use crate::tapes::plain;
+use crate::tapes::{at, plain};
 use Record::{New, Result as Total, Width};
 
 const LEFT: u8 = 0;
@@ -41,10 +41,6 @@ fn above(x: f32) -> f32 {
 
 fn below(x: f32) -> f32 {
     x.next_down()
-}
-
-fn at(side: u8, width: f32, height: f32, min_y: f32) -> Record {
-    Record::Place { side, clear: 0, width, height, min_y, insets: [0.0, 0.0] }
 }
 
 fn within(side: u8, width: f32, height: f32, insets: [f32; 2]) -> Record {

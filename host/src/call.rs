@@ -59,8 +59,9 @@ fn band_number(after: u16) -> Option<usize> {
 }
 
 impl Call {
-    /// The call of a record, or the lowest of the refusals 1 to 3 that holds.
-    #[inline]
+    /// The call of a record, or the lowest of the refusals 1 to 3 that holds. It stands in line, so that neither job of the bench pays for
+    /// what the other needs of it.
+    #[inline(always)]
     pub fn of(record: &Record) -> Result<Call, u8> {
         Ok(match *record {
             Record::New => Call::New,

@@ -1,8 +1,8 @@
-//! Runs the pages of tapes through an archive and the judge, compares every byte and the boxes' numbers in the bands, and shrinks a tape on
-//! which they differ.
+//! Runs the pages of tapes through an archive and the judge, compares every byte, the boxes' numbers in the bands and the depth, and shrinks
+//! a tape on which they differ.
 
 use crate::account::Account;
-use crate::archive::{difference, room, Innermost, Runner};
+use crate::archive::{difference, room, Depth, Functions, Innermost, Runner};
 use crate::float_counted::Band;
 use crate::judge::{Answer, Counts, Judge};
 use crate::raised::Asking;
@@ -41,6 +41,13 @@ pub fn other_box(
         let differs = answered != told;
         differs.then(|| format!("band {band}, side {side}: the archive answers box {answered}, the account has {told}"))
     })
+}
+
+/// How the archive's depth differs from the account's, if it does.
+pub fn other_depth(depth: Depth, tape: &[u8], account: &Account) -> Option<String> {
+    let (answered, told) = (depth(tape), account.told_depth());
+    let differs = answered != told;
+    differs.then(|| format!("the archive answers the depth {answered:#X}, the account has {told:#X}"))
 }
 
 /// Every band, and the number after the last.
@@ -133,9 +140,8 @@ const NOT_AGAIN: &str = "only on this tape, and not when run again";
 /// Compares pages, and keeps count: those on which no call clears with the crate as it is, the others with the crate asked without clear at
 /// the raised min_y.
 pub struct Driver {
-    /// none: the tapes are judged and counted, and nothing is compared
-    run: Option<Runner>,
-    innermost: Option<Innermost>,
+    /// those that are none are counted, and not compared
+    archive: Functions,
     asking: Asking,
     pub tapes: u64,
     /// pages with a placement or a slot question, those of the other run counted
@@ -147,12 +153,14 @@ pub struct Driver {
     pub counts: Counts,
     /// bands' sides of which the box's number was asked
     pub touched: u64,
+    /// pages whose depth was asked
+    pub depths: u64,
 }
 
 impl Driver {
-    pub fn new(run: Option<Runner>, innermost: Option<Innermost>, asking: Asking) -> Self {
+    pub fn new(archive: Functions, asking: Asking) -> Self {
         let counts = Counts::default();
-        Driver { run, innermost, asking, tapes: 0, met: 0, pages: 0, otherwise: 0, counts, touched: 0 }
+        Driver { archive, asking, tapes: 0, met: 0, pages: 0, otherwise: 0, counts, touched: 0, depths: 0 }
     }
 
     /// Whether a page is of this run.
@@ -185,7 +193,7 @@ impl Driver {
 
     fn run(&mut self, tape: &[u8], lines: &[u8], room: usize) -> Result<(), Found> {
         self.counts.refusals[13] += u64::from(room < lines.len());
-        let Some(run) = self.run else { return Ok(()) };
+        let Some(run) = self.archive.run else { return Ok(()) };
         if difference(run, tape, lines, room).is_none() {
             return Ok(());
         }
@@ -196,29 +204,60 @@ impl Driver {
         Err(Found { tape, report })
     }
 
-    /// The numbers of both sides of some bands after a tape, by the archive and by the account.
-    fn numbers(&mut self, tape: &[u8], account: &Account, bands: RangeInclusive<usize>) -> Result<(), Found> {
-        self.touched += 2 * bands.clone().count() as u64;
-        let Some(innermost) = self.innermost else { return Ok(()) };
-        if other_box(innermost, tape, account, bands).is_none() {
-            return Ok(());
-        }
-        let other = |tape: &[u8]| {
-            let account = Judge::asking(self.asking).account_after(tape);
-            other_box(innermost, tape, &account, every_band(&account))
-        };
+    /// The tape made small on which the page is told otherwise than by its account.
+    fn otherwise_told(&self, tape: &[u8], other: impl Fn(&[u8], &Account) -> Option<String>) -> Result<(), Found> {
+        let other = |tape: &[u8]| other(tape, &Judge::asking(self.asking).account_after(tape));
         let tape = shrunk(tape, |tape| other(tape).is_some());
         let report = other(&tape).unwrap_or(NOT_AGAIN.into());
         Err(Found { tape, report })
     }
 
+    /// The numbers of both sides of some bands after a tape, by the archive and by the account.
+    fn numbers(&mut self, tape: &[u8], account: &Account, bands: RangeInclusive<usize>) -> Result<(), Found> {
+        self.touched += 2 * bands.clone().count() as u64;
+        let Some(innermost) = self.archive.innermost else { return Ok(()) };
+        if other_box(innermost, tape, account, bands).is_none() {
+            return Ok(());
+        }
+        self.otherwise_told(tape, |tape, account| other_box(innermost, tape, account, every_band(account)))
+    }
+
+    /// The depth after a tape, by the archive and by the account.
+    fn depth(&mut self, tape: &[u8], account: &Account) -> Result<(), Found> {
+        self.depths += 1;
+        let Some(depth) = self.archive.depth else { return Ok(()) };
+        if other_depth(depth, tape, account).is_none() {
+            return Ok(());
+        }
+        self.otherwise_told(tape, |tape, account| other_depth(depth, tape, account))
+    }
+
+    /// The depth after a tape, and after each of its pages that the next one ends.
+    fn depths(&mut self, tape: &[u8], account: &Account) -> Result<(), Found> {
+        self.depth(tape, account)?;
+        let pages = tape::pages(tape);
+        let ended = pages[..pages.len() - 1].iter().filter(|page| page.calls > 0);
+        for Page { bytes, .. } in ended {
+            self.depth(bytes, &Judge::asking(self.asking).account_after(bytes))?;
+        }
+        Ok(())
+    }
+
+    /// The whole of what is told of a page: the numbers in every band, and the depth.
+    fn told(&mut self, tape: &[u8], account: &Account) -> Result<(), Found> {
+        self.numbers(tape, account, every_band(account))?;
+        self.depth(tape, account)
+    }
+
     /// The pages of one tape, in a room to spare by a few bytes or, each fourth time, in one that is surely enough, where a tape is run
-    /// once and not counted first; and, each eighth time, in one that is a byte too short, and with the numbers of one band asked.
+    /// once and not counted first; with the depths asked; and, each eighth time, in one that is a byte too short, and with the numbers of one
+    /// band asked.
     pub fn tape(&mut self, tape: &[u8]) -> Result<(), Found> {
         let Some(tape) = &self.own(tape) else { return Ok(()) };
         let (lines, account) = self.judged(tape);
         let room = if self.tapes % 4 == 1 { room(tape) } else { lines.len() + (self.tapes % 9) as usize };
         self.run(tape, &lines, room)?;
+        self.depths(tape, &account)?;
         if self.tapes % 8 == 0 && !lines.is_empty() {
             self.run(tape, &lines, lines.len() - 1)?;
         }
@@ -232,14 +271,15 @@ impl Driver {
     /// The pages of one tape in every room from none to one byte past the need.
     pub fn every_room(&mut self, tape: &[u8]) -> Result<(), Found> {
         let Some(tape) = &self.own(tape) else { return Ok(()) };
-        let (lines, _) = self.judged(tape);
+        let (lines, account) = self.judged(tape);
+        self.depths(tape, &account)?;
         (0..=lines.len() + 1).try_for_each(|room| self.run(tape, &lines, room))
     }
 
     /// The records with the whole page asked after every accepted placement. Some of the questions clear, so in the run of pages that clear
     /// it is every page; in the other run they are left out, and so is a page that clears. Where a tape grows too long, a new one begins
-    /// with the same records, without the questions asked so far. The boxes' numbers in all bands are asked on tapes of their own: a
-    /// question runs its tape.
+    /// with the same records, without the questions asked so far. The boxes' numbers in all bands and the depth are asked on tapes of their
+    /// own: a question runs its tape.
     pub fn asked(&mut self, records: &[Record]) -> Result<(), Found> {
         let mut judge = Judge::asking(self.asking);
         let thorough = self.tapes % THOROUGH == 0;
@@ -268,17 +308,17 @@ impl Driver {
             let answers: Vec<Answer> = questions.iter().map(|question| judge.answer(question)).collect();
             check_page(&judge.page.bands(), judge.page.width(), &answers);
             if own && (thorough || judge.boxes() <= FEW) {
-                self.numbers(&unasked, &judge.account, every_band(&judge.account))?;
+                self.told(&unasked, &judge.account)?;
             }
         }
         if own && !thorough && judge.boxes() > FEW {
-            self.numbers(&unasked, &judge.account, every_band(&judge.account))?;
+            self.told(&unasked, &judge.account)?;
         }
         assert!(clearing || judge.counts.clearing == 0, "the crate was asked to clear");
         self.tape(&tape)
     }
 
-    /// Pages, tapes, placements, questions, each refusal by its number, and the sides of bands whose box was asked.
+    /// Pages, tapes, placements, questions, each refusal by its number, the sides of bands whose box was asked, and the depths.
     pub fn summary(&self) -> String {
         let Driver { tapes, met, pages, otherwise, counts, .. } = self;
         let Counts { placements, questions, clearing, refusals } = counts;
@@ -290,8 +330,8 @@ impl Driver {
         for number in (1..=8).chain([13]) {
             write!(line, " {number}: {}", refusals[number]).unwrap();
         }
-        write!(line, ", boxes asked on {} sides of bands", self.touched).unwrap();
-        line + if self.run.is_some() { ", differences 0" } else { ", no archive to compare with" }
+        write!(line, ", boxes asked on {} sides of bands, {} depths asked", self.touched, self.depths).unwrap();
+        line + if self.archive.run.is_some() { ", differences 0" } else { ", no archive to compare with" }
     }
 }
 

@@ -1,6 +1,8 @@
-//! The job of `bulameki_run_tape` in plain Rust over the crate, as lean as one would write it: what the bench measures the archive against.
+//! The jobs of `bulameki_run_tape` and of `bulameki_depth` in plain Rust over the crate, as lean as one would write them: what the bench
+//! measures the archive against.
 //! The crate gives no step count: its lines have 0 there. Calls that clear are asked as `raised` says.
 
+use crate::account::returned;
 use crate::call::{Call, Placement, BANDS, BOXES, REACH};
 use crate::float_read::{BfcSlot, ContentSlot, FloatContext, FloatIntrinsicWidthCalculator};
 use crate::tape::{record_at, Record, LONGEST};
@@ -20,7 +22,8 @@ struct Job {
 
 impl Job {
     /// The crate knows no limit and has no way back. So a page near a limit is copied before the placement, and put back if the box is
-    /// refused with 6 or 7; no other page is, and nothing is kept beside it.
+    /// refused with 6 or 7; no other page is, and nothing is kept beside it. It stands in line in both jobs.
+    #[inline(always)]
     fn place(&mut self, of: Placement) -> Result<Point<f32>, u8> {
         if self.page.left_floats().len() + self.page.right_floats().len() == BOXES {
             return Err(5);
@@ -202,6 +205,23 @@ pub fn run(tape: &[u8], room: &mut [u8]) -> i64 {
     } else {
         -13
     }
+}
+
+/// The job of `bulameki_depth`, an `archive::Runner` that writes nothing: the depth is the larger of the bottoms that the crate keeps.
+pub fn depth(tape: &[u8], _: &mut [u8]) -> i64 {
+    let tape = if tape.len() > LONGEST { &[] } else { tape };
+    let mut job = Job::default();
+    let mut at = 0;
+    while let Some((record, next)) = record_at(tape, at) {
+        match Call::of(&record) {
+            Ok(Call::New) => job = Job::default(),
+            Ok(Call::Width(width)) if !job.page.has_floats() => job.page.set_width(width),
+            Ok(Call::Place(placement)) => _ = job.place(placement),
+            _ => {}
+        }
+        at = next;
+    }
+    returned(job.page.cleared_threshold(Clear::Both))
 }
 
 /// Lines without what the crate does not give: the step count at the end of each P.

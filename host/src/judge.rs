@@ -1,5 +1,5 @@
 //! What the crate answers behind document 01's limits and refusals: every line of a tape, from the counted copy of float.rs; and which
-//! box stands innermost in a band, by the account kept beside it. Calls that clear are asked as `raised` says.
+//! box stands innermost in a band and how deep the page is, by the account kept beside it. Calls that clear are asked as `raised` says.
 
 use crate::account::Account;
 use crate::call::{Call, Placement, BANDS, BOXES, REACH};
@@ -131,7 +131,8 @@ impl Judge {
             FloatDirection::Right => trial.right_floats().last(),
         };
         let (y, inset) = placed.map(|placed| (placed.y, placed.x_inset)).unwrap();
-        if y + size.height > REACH || inset + size.width > REACH {
+        let bottom = y + size.height;
+        if bottom > REACH || inset + size.width > REACH {
             return Err(6);
         }
         if trial.band_count() > BANDS {
@@ -141,7 +142,7 @@ impl Judge {
             FloatDirection::Left => inset,
             FloatDirection::Right => trial.width() - inset - size.width,
         };
-        self.account.follow(&changes, self.boxes());
+        self.account.follow(&changes, bottom);
         self.page = trial;
         Ok(Answer::Placed { x, y, steps })
     }
@@ -183,6 +184,11 @@ pub fn account(tape: &[u8]) -> Account {
 /// As `bulameki_innermost` has to answer.
 pub fn innermost(tape: &[u8], band: usize, side: u8) -> i64 {
     account(tape).told(band, side)
+}
+
+/// As `bulameki_depth` has to answer.
+pub fn depth(tape: &[u8]) -> i64 {
+    account(tape).told_depth()
 }
 
 impl Answer {

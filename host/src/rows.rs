@@ -85,13 +85,8 @@ pub fn page(number: usize, boxes: usize) -> Vec<Record> {
     }
 }
 
-/// Where the last band of a page ends.
 fn depth(page: &[Record]) -> f32 {
-    let mut judge = Judge::default();
-    for record in page {
-        judge.answer(record);
-    }
-    judge.page.bands().last().map_or(0.0, |band| band.end)
+    judge::account(&bytes(page)).depth().unwrap_or(0.0)
 }
 
 /// A question somewhere on a page of this depth.
@@ -221,6 +216,18 @@ fn innermost(boxes: usize) -> Row {
     Row { name, records: 1, sides: [look, job::run], same: false, with, without: vec![] }
 }
 
+/// `bulameki_depth` as a Runner.
+fn read_depth(tape: &[u8], _: &mut [u8]) -> i64 {
+    archive::depth().expect("linked")(tape)
+}
+
+/// How deep a page is, by a run of its tape on either side.
+fn deep(boxes: usize) -> Row {
+    let with = vec![Run { tape: bytes(&page(0, boxes)), room: 0 }];
+    let name = format!("how deep is a page of {boxes}");
+    Row { name, records: 1, sides: [read_depth, job::depth], same: true, with, without: vec![] }
+}
+
 /// Pages of 64 with questions, as many as a tape takes.
 fn longest() -> Vec<u8> {
     let mut tape = Vec::new();
@@ -266,7 +273,7 @@ pub fn rows() -> Vec<Row> {
         rows.push(whole(name, vec![Run::sure(asked(0, boxes))]));
     }
     rows.push(whole(format!("a page of {full}, no question"), vec![Run::sure(bytes(&page(0, full)))]));
-    rows.push(innermost(full));
+    rows.extend([innermost(full), deep(full)]);
     let between = format!("a page of {full}, two questions after each box");
     rows.push(whole(between, vec![Run::sure(bytes(&asked_between(0, full)))]));
     let exact = format!("a page of {full}, {} questions, no room to spare", 2 * full);

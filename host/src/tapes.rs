@@ -5,7 +5,12 @@ use crate::tape::{bytes, Field, Record, BODIES, LONGEST, NONE};
 
 /// A box at min_y 0 with insets 0 that clears nothing.
 pub fn plain(side: u8, width: f32, height: f32) -> Record {
-    Record::Place { side, clear: 0, width, height, min_y: 0.0, insets: [0.0, 0.0] }
+    at(side, width, height, 0.0)
+}
+
+/// The same at this min_y.
+pub fn at(side: u8, width: f32, height: f32, min_y: f32) -> Record {
+    Record::Place { side, clear: 0, width, height, min_y, insets: [0.0, 0.0] }
 }
 
 /// Every box over some clears, insets, sizes (width and height) and min_ys, of both sides.
@@ -315,13 +320,17 @@ pub fn damaged(tape: Vec<u8>) -> impl Iterator<Item = Vec<u8>> {
     cuts.into_iter().chain(changes)
 }
 
-/// Tapes at the longest length and beyond it, one with the longest answer that a tape can have.
+/// Tapes at the longest length and beyond it, one with the longest answer that a tape can have, two with a box.
 pub fn longest() -> Vec<Vec<u8>> {
-    let mut results = bytes(&[Record::Calc { mode: 1, number: 0.0 }]);
-    results.resize(LONGEST, 7);
-    let mut beyond = results.clone();
-    beyond.push(7);
-    vec![results, beyond, vec![0; LONGEST], vec![0; LONGEST + 1], vec![9; 3 * LONGEST]]
+    let results = |first: Record, length: usize| {
+        let mut tape = bytes(&[first]);
+        tape.resize(length, 7);
+        tape
+    };
+    let (started, placed) = (Record::Calc { mode: 1, number: 0.0 }, plain(0, 1.0, 1.0));
+    let both = [LONGEST, LONGEST + 1].into_iter();
+    let tapes = both.flat_map(|length| [results(started, length), results(placed, length), vec![0; length]]);
+    tapes.chain([vec![9; 3 * LONGEST]]).collect()
 }
 
 /// Pages on which refusals 4 to 8 hold, alone and together; all but 8 on the last.

@@ -1,5 +1,5 @@
-//! The account of the boxes' numbers, judged by itself: by what document 02's request 1/14 says of it, over the crate's own page before and
-//! after every placement.
+//! The account of the boxes' numbers and of the depth, judged by itself: by what document 02's requests 1/14 and 3/14 say of it, over the
+//! crate's own page before and after every placement.
 #![cfg(has_taffy)]
 
 use host::float_counted::{Band, FloatContext, PlacedFloatedBox};
@@ -7,6 +7,7 @@ use host::judge::{Answer, Judge};
 use host::random::Random;
 use host::tape::Record;
 use host::tapes;
+use host::Clear;
 
 /// A band with the numbers of its boxes.
 #[derive(Debug, Clone, Copy)]
@@ -69,6 +70,23 @@ fn check_stands(bands: &[Numbered], number: usize, (side, placed): &Placed) {
     assert!(top, "no band begins at the top of box {number}: {bands:?}");
 }
 
+/// The depth is the largest bottom, read from the crate's boxes, and the larger of the two bottoms that the crate keeps. No band ends below
+/// it; on whole 64ths the last one ends where the lowest box of positive height does.
+fn check_depth(judge: &Judge, boxes: &[Placed], whole_64ths: bool) {
+    let lowest = |above: f32| {
+        let boxes = boxes.iter().map(|(_, placed)| placed).filter(|placed| placed.height > above);
+        boxes.map(|placed| placed.y + placed.height).max_by(f32::total_cmp)
+    };
+    let depth = judge.account.depth();
+    assert_eq!(depth, lowest(-1.0), "{boxes:?}");
+    assert_eq!(depth, judge.page.cleared_threshold(Clear::Both), "{boxes:?}");
+    let last = judge.page.bands().last().map(|band| band.end);
+    assert!(last <= depth, "{last:?} below {depth:?}: {boxes:?}");
+    if whole_64ths {
+        assert_eq!(last, lowest(0.0), "{boxes:?}");
+    }
+}
+
 /// All of it after each record; gives the number of placements.
 fn check(records: &[Record], whole_64ths: bool) -> usize {
     let mut judge = Judge::default();
@@ -93,6 +111,7 @@ fn check(records: &[Record], whole_64ths: bool) -> usize {
         }
         assert_eq!(boxes.len(), judge.boxes());
         check_numbers(&new, &boxes);
+        check_depth(&judge, &boxes, whole_64ths);
     }
     placements
 }

@@ -1,6 +1,6 @@
-//! The archive beside the crate: every line of every tape, the whole page by asking, and the boxes' numbers in its bands. In one run the crate
-//! is as it is, on the pages on which no call clears; in the other it is asked without clear, on the others. HOST_TAPES=N runs N random
-//! tapes, HOST_SEED=N others.
+//! The archive beside the crate: every line of every tape, the depth of every page, the whole page by asking, and the boxes' numbers in its
+//! bands. In one run the crate is as it is, on the pages on which no call clears; in the other it is asked without clear, on the others.
+//! HOST_TAPES=N runs N random tapes, HOST_SEED=N others.
 #![cfg(has_taffy)]
 
 use host::archive;
@@ -61,7 +61,7 @@ fn run(name: &str, asking: Asking) -> Driver {
     let seed = from_environment("HOST_SEED").unwrap_or(1);
     let count = from_environment("HOST_TAPES").unwrap_or(TAPES);
     let started = Instant::now();
-    let mut driver = Driver::new(archive::panel(), archive::innermost(), asking);
+    let mut driver = Driver::new(archive::functions(), asking);
     let outcome = fixed(&mut driver).and_then(|()| random(&mut driver, &mut Random(seed), count));
     if let Err(found) = outcome {
         let text = tape::text(&found.tape);
@@ -72,7 +72,7 @@ fn run(name: &str, asking: Asking) -> Driver {
     if count >= TAPES {
         let counts = driver.counts;
         assert!(counts.placements >= 1_000_000 && counts.questions >= 1_000_000, "{}", driver.summary());
-        assert!(driver.touched >= 200_000, "{}", driver.summary());
+        assert!(driver.touched >= 200_000 && driver.depths >= driver.pages, "{}", driver.summary());
         assert!((1..=8).chain([13]).all(|number| counts.refusals[number] > 0), "{}", driver.summary());
     }
     driver

@@ -1,11 +1,11 @@
 //! The archive at each constant of document 01: the end of each answer is told, and all of it is the crate's, where it is at hand; so are
-//! the boxes' numbers in the bands.
+//! the boxes' numbers in the bands, and the depth.
 #![cfg(has_panel)]
 
 use host::archive;
 use host::boundaries::{self, Case};
 #[cfg(has_taffy)]
-use host::driver::{every_band, other_box};
+use host::driver::{every_band, other_box, other_depth};
 use host::tape;
 
 fn check(name: &str, case: &Case) {
@@ -32,7 +32,8 @@ fn check(name: &str, case: &Case) {
             tape::text(tape)
         );
         let account = host::judge::account(tape);
-        let other = other_box(archive::innermost().unwrap(), tape, &account, every_band(&account));
+        let other_box = other_box(archive::innermost().unwrap(), tape, &account, every_band(&account));
+        let other = other_box.or_else(|| other_depth(archive::depth().unwrap(), tape, &account));
         assert!(other.is_none(), "{name}: {}, of\n{}", other.unwrap(), tape::text(tape));
     }
 }

@@ -7,6 +7,7 @@ use host::float_counted::FloatContext;
 use host::judge::{self, Answer, Judge};
 use host::raised::Asking;
 use host::tape::{bytes, Record, NONE};
+use host::tapes::{at, plain as put};
 use host::{Clear, FloatDirection, Size};
 
 /// A box to be placed; lead is the inset of its container on its own side, the other one is 0.
@@ -108,14 +109,6 @@ fn small_pages_agree() {
     assert_eq!(all_pages(1, &[1.0, 2.0, 3.0, 4.0, 5.0], &[0.0, 1.0, 2.0, 3.0], 3), 6_940_920);
     assert_eq!(all_pages(1, &[1.0, 2.0, 3.0, 5.0], &[0.0], 4), 2_710_680);
     assert_eq!(all_pages(4, &[1.0, 2.0, 3.0, 5.0], &[0.0], 3), 3_557_472);
-}
-
-fn put(side: u8, width: f32, height: f32) -> Record {
-    Record::Place { side, clear: 0, width, height, min_y: 0.0, insets: [0.0, 0.0] }
-}
-
-fn at(side: u8, width: f32, height: f32, min_y: f32) -> Record {
-    Record::Place { side, clear: 0, width, height, min_y, insets: [0.0, 0.0] }
 }
 
 fn within(side: u8, width: f32, height: f32, left: f32, right: f32) -> Record {

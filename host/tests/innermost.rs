@@ -2,7 +2,7 @@
 
 use host::archive::{self, Innermost, NO_BOX, UNKNOWN_SIDE};
 use host::tape::{bytes, Record, LONGEST};
-use host::tapes::{self, plain};
+use host::tapes::{self, at, plain};
 use Record::{New, Width};
 
 const LEFT: u8 = 0;
@@ -43,10 +43,6 @@ fn numbers(tape: &[u8], told: &[[i64; 2]]) {
         answers(tape, band, LEFT, NONE);
         answers(tape, band, RIGHT, NONE);
     }
-}
-
-fn at(side: u8, width: f32, height: f32, min_y: f32) -> Record {
-    Record::Place { side, clear: 0, width, height, min_y, insets: [0.0, 0.0] }
 }
 
 fn within(side: u8, width: f32, height: f32, insets: [f32; 2]) -> Record {

@@ -1,4 +1,5 @@
-//! The bench's Rust program beside the judge, on tapes of every kind: every line but for the step count, and -13 in a room too short.
+//! The bench's Rust program beside the judge, on tapes of every kind: every line but for the step count, -13 in a room too short, and the
+//! depth.
 #![cfg(has_taffy)]
 
 use host::archive;
@@ -25,6 +26,7 @@ fn job_and_judge_agree() {
         let mut room = vec![0; lines.len()];
         assert!(job::run(&tape, &mut room) == lines.len() as i64 && room == lines);
         assert!(lines.is_empty() || job::run(&tape, &mut room[1..]) == -13);
+        assert_eq!(job::depth(&tape, &mut []), judge.account.told_depth(), "the depth after\n{}", tape::text(&tape));
     }
     assert!(counts.refusals[1..=8].iter().all(|count| *count > 0), "{counts:?}");
 }

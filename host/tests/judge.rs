@@ -1,21 +1,18 @@
 //! The judge on document 01's own words: its tape, its twelve examples, each refusal at its edge. And the driver on archives with a fault.
 #![cfg(has_taffy)]
 
-use host::archive::{Innermost, Runner, NO_BOX};
+use host::account::{returned, Account};
+use host::archive::{Depth, Functions, Innermost, Runner, NO_BOX};
 use host::driver::Driver;
-use host::judge::{self, Judge};
+use host::judge::{self, Answer, Judge};
 use host::raised::Asking;
 use host::random::Random;
-use host::tape::{self, bytes, Record, NONE};
-use host::tapes::{self, plain};
+use host::tape::{self, bytes, Record, LONGEST, NONE};
+use host::tapes::{self, at, plain};
 use Record::{New, Result as Total, Width};
 
 const LEFT: u8 = 0;
 const RIGHT: u8 = 1;
-
-fn at(side: u8, width: f32, height: f32, min_y: f32) -> Record {
-    Record::Place { side, clear: 0, width, height, min_y, insets: [0.0, 0.0] }
-}
 
 fn clearing(side: u8, width: f32, height: f32, clear: u8) -> Record {
     Record::Place { side, clear, width, height, min_y: 0.0, insets: [0.0, 0.0] }
@@ -250,16 +247,24 @@ fn answer(tape: &[u8], room: &mut [u8], wrong: fn(String) -> String) -> i64 {
 }
 
 /// The smallest tape on which the driver finds the archive wrong, as text: the same on pages of either run.
-fn found(run: Runner) -> Option<String> {
-    found_alike(Some(run), None)
-}
-
-fn found_alike(run: Option<Runner>, innermost: Option<Innermost>) -> Option<String> {
-    let [as_it_is, raised] =
-        [Asking::AsItIs, Asking::Raised].map(|asking| found_by(Driver::new(run, innermost, asking)));
+fn found(archive: Functions) -> Option<String> {
+    let [as_it_is, raised] = [Asking::AsItIs, Asking::Raised].map(|asking| found_by(Driver::new(archive, asking)));
     let count = |text: &Option<String>| text.as_ref().map(|text| text.lines().count());
     assert_eq!(count(&as_it_is), count(&raised), "{as_it_is:?}, {raised:?}");
     raised
+}
+
+/// An archive of one function alone.
+fn run(run: Runner) -> Functions {
+    Functions { run: Some(run), ..Functions::default() }
+}
+
+fn innermost(innermost: Innermost) -> Functions {
+    Functions { innermost: Some(innermost), ..Functions::default() }
+}
+
+fn depth(depth: Depth) -> Functions {
+    Functions { depth: Some(depth), ..Functions::default() }
 }
 
 fn found_by(mut driver: Driver) -> Option<String> {
@@ -276,6 +281,7 @@ fn found_by(mut driver: Driver) -> Option<String> {
 
 #[test]
 fn a_fault_is_found_and_shrunk() {
+    let found = |of: Runner| found(run(of));
     assert_eq!(found(|tape, room| answer(tape, room, |lines| lines)), None);
     // another step count; another order of refusals; a width lost
     let text = found(|tape, room| answer(tape, room, |lines| lines.replace(" 1\n", " 2\n"))).unwrap();
@@ -306,9 +312,8 @@ fn a_fault_is_found_and_shrunk() {
 
 #[test]
 fn another_box_is_found_and_shrunk() {
-    let found = |innermost: Innermost| found_alike(None, Some(innermost));
-    assert_eq!(found(judge::innermost), None);
-    let records = |innermost: Innermost| found(innermost).unwrap().lines().count();
+    assert_eq!(found(innermost(judge::innermost)), None);
+    let records = |of: Innermost| found(innermost(of)).unwrap().lines().count();
     // the other side's box; the one in the band below; no box for the second; a box below all bands
     assert_eq!(records(|tape, band, side| judge::innermost(tape, band, 1 - side)), 1);
     assert_eq!(records(|tape, band, side| judge::innermost(tape, band + 1, side)), 1);
@@ -324,14 +329,112 @@ fn another_box_is_found_and_shrunk() {
     assert_eq!(records(below), 0);
 }
 
+/// The depth after a tape, as it becomes with each record and its answer; at first there is none.
+fn kept(tape: &[u8], after: fn(Option<f32>, &Record, Answer) -> Option<f32>) -> i64 {
+    let mut judge = Judge::default();
+    let records = if tape.len() > LONGEST { vec![] } else { tape::records(tape).0 };
+    returned(records.iter().fold(None, |depth, record| after(depth, record, judge.answer(record))))
+}
+
+/// A depth raised to a bottom.
+fn lower(depth: Option<f32>, bottom: f32) -> Option<f32> {
+    Some(depth.map_or(bottom, |depth| depth.max(bottom)))
+}
+
+/// The depth kept as it has to be.
+fn kept_right(depth: Option<f32>, record: &Record, answer: Answer) -> Option<f32> {
+    match (*record, answer) {
+        (_, Answer::Fresh) => None,
+        (Record::Place { height, .. }, Answer::Placed { y, .. }) => lower(depth, y + height),
+        _ => depth,
+    }
+}
+
+#[test]
+fn another_depth_is_found_and_shrunk() {
+    assert_eq!(found(depth(judge::depth)), None);
+    assert_eq!(found(depth(|tape| kept(tape, kept_right))), None);
+    let text = |of: Depth| found(depth(of)).unwrap();
+    let records = |of: Depth| text(of).lines().count();
+    // not raised by a box of no height; raised by a box that is refused, for whatever reason, and for being too deep
+    let high = |tape: &[u8]| {
+        kept(tape, |depth, record, answer| match record {
+            Record::Place { height, .. } if *height == 0.0 => depth,
+            _ => kept_right(depth, record, answer),
+        })
+    };
+    assert_eq!(records(high), 1);
+    let refused = |tape: &[u8]| {
+        kept(tape, |depth, record, answer| match (*record, answer) {
+            (Record::Place { height, min_y, .. }, Answer::Refused(_)) => lower(depth, min_y + height),
+            _ => kept_right(depth, record, answer),
+        })
+    };
+    assert_eq!(records(refused), 1);
+    let too_deep = |tape: &[u8]| {
+        kept(tape, |depth, record, answer| match (*record, answer) {
+            (Record::Place { height, min_y, .. }, Answer::Refused(6)) => lower(depth, min_y + height),
+            _ => kept_right(depth, record, answer),
+        })
+    };
+    for asking in [Asking::AsItIs, Asking::Raised] {
+        let text = found_by(Driver::new(depth(too_deep), asking)).unwrap();
+        assert!((2..=4).contains(&text.lines().count()) && text.contains("6553"), "{text}");
+    }
+    // the last bottom; the first; the lowest top
+    let last = |tape: &[u8]| {
+        kept(tape, |depth, record, answer| match answer {
+            Answer::Placed { .. } => kept_right(None, record, answer),
+            _ => kept_right(depth, record, answer),
+        })
+    };
+    assert_eq!(records(last), 2);
+    let first = |tape: &[u8]| {
+        kept(tape, |depth, record, answer| match answer {
+            Answer::Placed { .. } => depth.or(kept_right(None, record, answer)),
+            _ => kept_right(depth, record, answer),
+        })
+    };
+    assert_eq!(records(first), 2);
+    let top = |tape: &[u8]| {
+        kept(tape, |depth, record, answer| match answer {
+            Answer::Placed { y, .. } => lower(depth, y),
+            _ => kept_right(depth, record, answer),
+        })
+    };
+    assert_eq!(records(top), 1);
+    // none as 0; never above 0; not fresh on a fresh page
+    let zero = |tape: &[u8]| match judge::depth(tape) {
+        NO_BOX => 0,
+        bits => bits,
+    };
+    assert_eq!(text(zero), "");
+    let below_0 = |tape: &[u8]| match judge::depth(tape) {
+        NO_BOX => NO_BOX,
+        bits => returned(Some(f32::from_bits(bits as u32).max(0.0))),
+    };
+    assert_eq!(records(below_0), 1);
+    let stays = |tape: &[u8]| {
+        kept(tape, |depth, record, answer| match answer {
+            Answer::Fresh => depth,
+            _ => kept_right(depth, record, answer),
+        })
+    };
+    assert_eq!(records(stays), 2);
+}
+
 /// An archive that clears by the crate's rule is found on the pages that clear, and answers all others right.
 #[test]
 fn clearing_by_band_numbers_is_found() {
-    let run: Runner = |tape, room| written(&Judge::asking(Asking::AsItIs).lines(tape), room);
-    let innermost: Innermost = |tape, band, side| Judge::asking(Asking::AsItIs).account_after(tape).told(band, side);
-    for (run, innermost) in [(Some(run), None), (None, Some(innermost))] {
-        assert_eq!(found_by(Driver::new(run, innermost, Asking::AsItIs)), None);
-        let text = found_by(Driver::new(run, innermost, Asking::Raised)).unwrap();
+    fn after(tape: &[u8]) -> Account {
+        Judge::asking(Asking::AsItIs).account_after(tape)
+    }
+    let run = run(|tape, room| written(&Judge::asking(Asking::AsItIs).lines(tape), room));
+    let innermost = innermost(|tape, band, side| after(tape).told(band, side));
+    let depth = depth(|tape| after(tape).told_depth());
+    for archive in [run, innermost, depth] {
+        assert_eq!(found_by(Driver::new(archive, Asking::AsItIs)), None);
+        let text = found_by(Driver::new(archive, Asking::Raised)).unwrap();
         assert!(text.lines().count() <= 3 && text.contains("clear"), "{text}");
     }
 }

@@ -6,7 +6,7 @@ use native.Mathlib.Omega.{arith}
 use mathlib.Core.Bool.{true}
 use mathlib.Core.List.{List, [], _∷_}
 use lib.Dec.{ltb, ltb→lt, nltb→le, T-not}
-use lib.Ieee.{Float, inf, binary32, sub, lt, eq}
+use lib.Ieee.{Float, inf, binary32, sub, lt}
 use lib.ListN.{length, getD}
 use Rattle.f32_laws.specs.Numbers.{larger, zero+}
 use Rattle.f32_laws.specs.Key.{Num}
@@ -30,15 +30,12 @@ use Rattle.demands.proofs.Chain.{Chain, chain-at}
 use Rattle.demands.proofs.Heights.{at-is}
 use Rattle.demands.proofs.First.{first-end, first-start, first-none}
 use Rattle.demands.proofs.Input.{known, check-both, plus-fits}
+use Rattle.demands.proofs.Upright.{plus-zero}
 
 -- the larger of a number and one that is no larger
 larger-first : {x y : Float} → Num binary32 x → Num binary32 y → k y ≤ k x → larger x y ≡ x
 unfolding larger
 larger-first {x} {y} p q h = both (λ (z : Float). z ≡ x) (lt x y) (λ t. absurd (not-suc-le-zero {n = 0} (omega (arith, lt→key p q t)))) (λ t. refl)
-
-plus-zero : plusZero zero+ ≡ zero+
-unfolding plusZero
-plus-zero = both (λ (z : Float). z ≡ zero+) (eq zero+ zero+) (λ t. refl) (λ t. refl)
 
 -- the same inset on both sides
 abbrev both-sides : Float → Insets

@@ -171,16 +171,16 @@ module _ (P : Float → Type 0) (f : (x y : Float) → P x → P y → P (larger
 pub larger-val : (x y : Float) → Val x → Val y → Val (larger x y)
 larger-val x y p q = larger-top p (val-top q)
 
--- the ceiling keeps every height under it, and the one it is raised to
-pub ceiling-keeps : (b : Bottom) (x y : Float) → BottomIs Val b → Val y → AtMost x b → AtMost x (lower b (Bottom.At y))
+-- a kept height that is raised keeps every height above it, and takes the one it is raised to
+pub lower-keeps : (b : Bottom) (x y : Float) → BottomIs Val b → Val y → AtMost x b → AtMost x (lower b (Bottom.At y))
 unfolding lower
-ceiling-keeps Bottom.None x y v w h = absurd h
-ceiling-keeps (Bottom.At z) x y v w h = omega (arith, larger-key (v .num) (w .num))
+lower-keeps Bottom.None x y v w h = absurd h
+lower-keeps (Bottom.At z) x y v w h = omega (arith, larger-key (v .num) (w .num))
 
-pub ceiling-takes : (b : Bottom) (x y : Float) → BottomIs Val b → Val y → k x ≤ k y → AtMost x (lower b (Bottom.At y))
+pub lower-takes : (b : Bottom) (x y : Float) → BottomIs Val b → Val y → k x ≤ k y → AtMost x (lower b (Bottom.At y))
 unfolding lower
-ceiling-takes Bottom.None x y v w h = h
-ceiling-takes (Bottom.At z) x y v w h = omega (arith, larger-key (v .num) (w .num))
+lower-takes Bottom.None x y v w h = h
+lower-takes (Bottom.At z) x y v w h = omega (arith, larger-key (v .num) (w .num))
 
 raise-up : (y : Float) (b : Bottom) → Val y → BottomIs Val b → k y ≤ k (raiseTo y b)
 unfolding raiseTo

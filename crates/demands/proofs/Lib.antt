@@ -17,6 +17,7 @@ pub mod Lists
 pub mod Whole
 pub mod Numbers
 pub mod Upright
+pub mod Deep
 pub mod Reach
 pub mod Structs
 pub mod Adding

@@ -1,11 +1,12 @@
--- What holds of each in a list, and of every two: one more at the end, and one by its number.
+-- What holds of each in a list, of every two, and of some: one more at the end, and one by its number.
 use mathlib.Core.Path.{_≡_, refl}
+use mathlib.Core.Logic.{inl, inr}
 use Prim.Native.Nat.{ℕ, zero, suc}
 use native.Mathlib.Omega.{arith}
 use mathlib.Core.List.{List, [], _∷_, _++_}
 use mathlib.Core.Option.{some}
 use lib.ListN.{length, getD, getElem?}
-use Rattle.demands.specs.Runs.{Each, Pairs}
+use Rattle.demands.specs.Runs.{Each, Pairs, Some}
 
 module _ {A : Type 0} where
   pub each-append : (P : A → Type 0) (l : List A) (a : A) → Each P l → P a → Each P (l ++ a ∷ [])
@@ -32,6 +33,21 @@ module _ {A : Type 0} where
   each-at P [] i d p h = p
   each-at P (x ∷ l) zero d p h = h .0
   each-at P (x ∷ l) (suc i) d p h = each-at P l i d p (h .1)
+
+  pub some-last : (P : A → Type 0) (l : List A) (a : A) → P a → Some P (l ++ a ∷ [])
+  some-last P [] a p = inl p
+  some-last P (x ∷ l) a p = inr (some-last P l a p)
+
+  pub some-append : (P Q : A → Type 0) (l : List A) (a : A) → ((x : A) → P x → Q x) → Some P l → Some Q (l ++ a ∷ [])
+  some-append P Q [] a f h = absurd h
+  some-append P Q (x ∷ l) a f (inl p) = inl (f x p)
+  some-append P Q (x ∷ l) a f (inr h) = inr (some-append P Q l a f h)
+
+  -- of one that P holds of, what holds of each
+  pub some-each : (P Q : A → Type 0) {R : Type 0} (l : List A) → ((x : A) → P x → Q x → R) → Some P l → Each Q l → R
+  some-each P Q [] f h g = absurd h
+  some-each P Q (x ∷ l) f (inl p) g = f x p (g .0)
+  some-each P Q (x ∷ l) f (inr h) g = some-each P Q l f h (g .1)
 
   -- what has a number keeps it, and the new one has the next
   pub kth-stays : (l m : List A) (k : ℕ) (x : A) → getElem? l k ≡ some x → getElem? (l ++ m) k ≡ some x

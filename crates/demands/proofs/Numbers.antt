@@ -8,19 +8,17 @@ use lib.Ieee.{Float, binary32, add, lt}
 use lib.ListN.{length, length-append, getElem?}
 use Rattle.f32_laws.proofs.Tests.{both}
 use Rattle.float.specs.declared.BoxNumber.{BoxNumber}
-use Rattle.float.specs.declared.Done.{Done}
 use Rattle.float.specs.declared.FloatDirection.{FloatDirection}
 use Rattle.float.specs.declared.Segment.{Segment}
 use Rattle.float.specs.declared.fit.Ask.{Ask}
 use Rattle.float.specs.declared.search.Spot.{Spot}
-use Rattle.float.specs.Numbers.{plusZero}
 use Rattle.float.specs.Bands.{lead, hasFloat, boxOn, bare, spanning, marked, splitAt, markAll}
 use Rattle.float.specs.Page.{Page, pageOf, freshContext, fresh}
-use Rattle.float.specs.Place.{Call, cleaned, askOf, spotOf, Made, endOf, gapped, walked, startedAt, make, recorded, boxOf, counted, xOf, place, widthCheck, withWidth, ifDone, setWidth}
+use Rattle.float.specs.Place.{Call, cleaned, askOf, spotOf, Made, endOf, gapped, walked, startedAt, make, recorded, boxOf, counted, xOf, place, setWidth}
 use Rattle.demands.specs.Runs.{Each, Accepted, lastInset, noted, sideIn, farInset, present, Names}
 use Rattle.demands.proofs.Chain.{each-split, each-mark}
 use Rattle.demands.proofs.Splits.{started-ways, make-ways}
-use Rattle.demands.proofs.Ways.{place-ways}
+use Rattle.demands.proofs.Ways.{place-ways, width-ways}
 use Rattle.demands.proofs.Lists.{each-append, each-map, kth-stays, kth-last}
 use Rattle.demands.proofs.Whole.{last-inset}
 
@@ -140,9 +138,4 @@ place-named p g c v =
 
 -- ---- the width
 pub wide-named : (p : Page) (g : List Accepted) (w : Float) → Named p g → Named (setWidth p w) g
-unfolding setWidth
-wide-named p g w v = go (widthCheck (p .boxes) (plusZero w))
-  where
-    go : (d : Done) → Named (ifDone d (withWidth p (plusZero w)) p) g
-    go Done.Accepted = record { count = v .count; bands = v .bands }
-    go (Done.Refused n) = v
+wide-named p g w v = width-ways (λ q. Named q g) p w v (record { count = v .count; bands = v .bands })

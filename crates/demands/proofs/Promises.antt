@@ -8,6 +8,7 @@ use lib.Ieee.{Float, inf, binary32, add, sub, lt, le, eq}
 use lib.ListN.{length, getD}
 use Rattle.f32_laws.specs.Numbers.{zero+}
 use Rattle.float.specs.declared.BandNumber.{BandNumber}
+use Rattle.float.specs.declared.Bottom.{Bottom}
 use Rattle.float.specs.declared.BoxNumber.{BoxNumber}
 use Rattle.float.specs.declared.Clear.{Clear}
 use Rattle.float.specs.declared.ContentAnswer.{ContentAnswer}
@@ -32,9 +33,9 @@ use Rattle.float.specs.Page.{Page, pageOf, stored}
 use Rattle.float.specs.Calculator.{addOf}
 use Rattle.float.specs.Clear.{raiseTo, cleared}
 use Rattle.float.specs.Fit.{fits}
-use Rattle.float.specs.Place.{Call, cleaned, numbers, inputCheck, lowest, firstAllowed, askOf, spotOf, admitted, place, placedPage, held, placeOf, withWidth, widthOf, ifDone}
-use Rattle.float.specs.Slot.{active, seek, innermost, ContentCall, contentCleaned, contentSlot, content, BfcCall, bfcCleaned, bfcSlot, bfc}
-use Rattle.demands.specs.Runs.{Each, Pairs, Act, box, boxIn, next, run, after, pageIn, bandsIn, Stays, handed, Handed, F32, Whole64, insetAt, NoSmaller, EdgeToEdge, StartSplit, EndSplit, sideIn, containingLead, containingTrail, xFrom, bottom, rightEdge, farInset, LowEnough, present, Names, Holds, StandsAt, ExactSum, unclear, contentUnclear, bfcUnclear, Raises, contentAt, Between, sized, shareHeight, overlap, fitsExactly, Joins, Page64}
+use Rattle.float.specs.Place.{Call, cleaned, numbers, inputCheck, lowest, firstAllowed, askOf, spotOf, endOf, admitted, place, placedPage, held, placeOf, withWidth, widthOf, ifDone}
+use Rattle.float.specs.Slot.{depthOf, active, seek, innermost, ContentCall, contentCleaned, contentSlot, content, BfcCall, bfcCleaned, bfcSlot, bfc}
+use Rattle.demands.specs.Runs.{Each, Pairs, Act, box, boxIn, next, run, after, pageIn, bandsIn, Stays, handed, Handed, F32, Whole64, insetAt, NoSmaller, EdgeToEdge, StartSplit, EndSplit, sideIn, containingLead, containingTrail, xFrom, bottom, rightEdge, farInset, LowEnough, present, Names, Holds, StandsAt, AtOrAbove, Largest, ExactSum, unclear, contentUnclear, bfcUnclear, Raises, contentAt, Between, high, sized, shareHeight, overlap, fitsExactly, Joins, Page64}
 use Rattle.demands.proofs.Steps.{StepsTo, place-few}
 use Rattle.demands.proofs.Added.{place-more}
 use Rattle.demands.proofs.Splits.{start-split, end-split}
@@ -42,6 +43,7 @@ use Rattle.demands.proofs.Input.{cleaned-fits, min-y}
 use Rattle.demands.proofs.Lists.{each-map}
 use Rattle.demands.proofs.Whole.{Lies, spot-in, first-idle, place-ok}
 use Rattle.demands.proofs.Numbers.{Numbered}
+use Rattle.demands.proofs.Deep.{at-or-above, largest, alone, fallen, ends-above}
 use Rattle.demands.proofs.Reach.{inset-in-reach, flat-not-6}
 use Rattle.demands.proofs.Structs.{page-placed}
 use Rattle.demands.proofs.Exact.{fits-idle}
@@ -49,9 +51,9 @@ use Rattle.demands.proofs.Adding.{LeftAs, add-left}
 use Rattle.demands.proofs.Whole64.{known64, ask64}
 use Rattle.demands.proofs.Content.{Answers, content-told}
 use Rattle.demands.proofs.Cleared.{placed-same, content-same, bfc-same, placed-by-rules, content-by-rules, bfc-by-rules}
-use Rattle.demands.proofs.Reached.{named, reached, upright, sunk, grown, reached64}
+use Rattle.demands.proofs.Reached.{named, reached, upright, deep, sunk, grown, sinking, reached64}
 use Rattle.demands.proofs.Edges.{exact-edges, seven, apart}
-use Rattle.demands.proofs.Said.{edges, held-inset, no-smaller, told-names, told-unmarked, passed, page64, joins-ins, joins64, taken-in, taken-marked, each-boxed, each-standing, clear-pairs}
+use Rattle.demands.proofs.Said.{edges, held-inset, no-smaller, told-names, told-unmarked, passed, page64, joins-ins, joins64, taken-in, taken-marked, ends-in-bands, each-boxed, each-standing, clear-pairs}
 
 -- ---- any numbers: `os` is what was called so far
 
@@ -182,11 +184,37 @@ pub firsts-idle : (os : List Act) (c : Call) → Handed F32 os → Each F32 (han
     → firstBelow (bandsIn (after os)) (firstAllowed (pageIn (after os))) (lowest (pageIn (after os)) (cleaned c)) ≡ firstBelow (bandsIn (after os)) 0 (lowest (pageIn (after os)) (cleaned c))
 firsts-idle os c f g e = first-idle (pageIn (after os)) (after os .accepted) (cleaned c) (reached os f) (passed c g e .0) (sunk os f)
 
+-- how deep the page is (3/14): the largest bottom of the accepted placements, none exactly where there is none; and no other value is that
+pub depth-largest : (os : List Act) → Handed F32 os → Largest (after os .accepted) (depthOf (pageIn (after os)))
+unfolding depthOf
+depth-largest os f = largest _ _ _ _ _ (deep os f)
+
+pub depth-alone : (os : List Act) → Handed F32 os → (d : Bottom) → Largest (after os .accepted) d → d ≡ depthOf (pageIn (after os))
+unfolding depthOf
+depth-alone os f = alone _ _ _ _ _ (deep os f)
+
+-- it is the larger of the two kept bottoms, so what clearing both asks for
+pub depth-of-sides : (os : List Act) → Handed F32 os → depthOf (pageIn (after os)) ≡ cleared (pageIn (after os)) Clear.Both
+unfolding depthOf cleared
+depth-of-sides os f = deep os f .sides
+
+-- whatever is called after on that page, accepted or refused, it never falls
+pub depth-never-falls : (os more : List Act) → Handed F32 os → Handed F32 more → Each Stays more → (x : Float) → depthOf (pageIn (after os)) ≡ Bottom.At x → AtOrAbove x (depthOf (pageIn (run (after os) more)))
+unfolding depthOf
+depth-never-falls os more f g s x e =
+    let v = sinking os more f g s in
+    fallen (pageIn (after os) .depth) (deep os f .kept) x e (pageIn (run (after os) more) .depth) (at-or-above _ _ _ _ _ (v .0)) (v .1)
+
+-- no band ends below it
+pub ends-above-depth : (os : List Act) → Handed F32 os → Each (λ b. AtOrAbove (b .end) (depthOf (pageIn (after os)))) (bandsIn (after os))
+unfolding depthOf
+ends-above-depth os f = ends-above (pageIn (after os)) (after os .accepted) (reached os f .chain) (deep os f)
+
 -- ---- if every number handed in was whole 64ths
 
 -- all numbers that the page then holds are whole 64ths
 pub page-in-64ths : (os : List Act) → Handed F32 os → Handed Whole64 os → Page64 (pageIn (after os))
-page-in-64ths os f s = page64 (pageIn (after os)) (after os .accepted) (reached64 os f s)
+page-in-64ths os f s = page64 (pageIn (after os)) (after os .accepted) (reached64 os f s) (deep os f)
 
 -- 0.001 never decides: whatever insets the search asks for, the fit test says the same without it
 pub tolerance-idle : (os : List Act) (c : Call) → Handed F32 os → Handed Whole64 os → Each F32 (handed (box c)) → Each Whole64 (handed (box c)) → inputCheck (cleaned c) ≡ Check.Passed
@@ -217,6 +245,10 @@ no-overlap os f s = clear-pairs os f s apart
 pub none-further-in : (os : List Act) → Handed F32 os → Handed Whole64 os → (i : ℕ) → i < length (bandsIn (after os)) → (h : Float) → F32 h → Holds (getD (bandsIn (after os)) i none) h
     → Each (λ a. StandsAt a h → T (le (farInset a) (lead (sideIn a) (getD (bandsIn (after os)) i none)))) (after os .accepted)
 none-further-in os f s i o h g w = each-standing os f s (taken-in (bandsIn (after os)) (reached64 os f s .inv .chain) i o h g w)
+
+-- the bands reach down to the bottom of every accepted box with a height (3/14)
+pub bands-reach : (os : List Act) → Handed F32 os → Handed Whole64 os → Each (λ a. T (high a) → T (le (bottom a) (endOf (bandsIn (after os))))) (after os .accepted)
+bands-reach os f s = each-standing os f s (ends-in-bands (bandsIn (after os)) (reached64 os f s .inv .chain))
 
 -- and where a side is not marked, no accepted box of that side shares a height with the band
 pub unmarked-free : (os : List Act) → Handed F32 os → Handed Whole64 os → (i : ℕ) → i < length (bandsIn (after os)) → (s : FloatDirection) → hasFloat s (getD (bandsIn (after os)) i none) ≡ false → (h : Float) → F32 h → Holds (getD (bandsIn (after os)) i none) h

@@ -10,6 +10,8 @@ use Rattle.demands.proofs.Lists.{each-both, each-of}
 use Rattle.demands.proofs.Whole.{Inv, fresh-inv, place-ok, wide-ok, Sunk, fresh-sunk, wide-sunk}
 use Rattle.demands.proofs.Numbers.{Named, fresh-named, place-named, wide-named}
 use Rattle.demands.proofs.Upright.{Upright, fresh-upright, place-upright, wide-upright}
+use Rattle.demands.proofs.Deep.{Deep, fresh-deep, place-deep, wide-deep, Sinks}
+use Rattle.demands.proofs.Ways.{width-ways}
 use Rattle.demands.proofs.Structs.{page-fresh, page-placed, page-widened}
 use Rattle.demands.proofs.Apart.{Inv64}
 use Rattle.demands.proofs.Whole64.{place64, wide64, fresh64}
@@ -69,16 +71,40 @@ next-low r (box c) v f = in-placed Low r c (let s = place-ok (pageIn r) (r .acce
 pub sunk : (os : List Act) → Handed F32 os → Sunk (pageIn (run started os))
 sunk os f = run-keeps (In Low) (λ o. Each F32 (handed o)) next-low started os (in-started Low (fresh-inv, fresh-sunk)) f .1
 
+-- with no minus zero, and with its depth
 abbrev Stood : Page → List Accepted → Type 0
-Stood q g = Upright q
+Stood q g = Inv q g × Upright q × Deep q g
 
-next-upright : (r : Run) (o : Act) → In Stood r → Each F32 (handed o) → In Stood (next r o)
-next-upright r newPage v f = in-started Stood fresh-upright
-next-upright r (width w) v f = in-widened Stood r w (wide-upright (pageIn r) w v)
-next-upright r (box c) v f = in-placed Stood r c (place-upright (pageIn r) c v f)
+fresh-stood : Stood fresh []
+fresh-stood = (fresh-inv, fresh-upright, fresh-deep)
+
+next-stood : (r : Run) (o : Act) → In Stood r → Each F32 (handed o) → In Stood (next r o)
+next-stood r newPage v f = in-started Stood fresh-stood
+next-stood r (width w) v f = in-widened Stood r w (wide-ok (pageIn r) (r .accepted) w (v .0) (f .0) .0, wide-upright (pageIn r) w (v .1), wide-deep (pageIn r) (r .accepted) w (v .2))
+next-stood r (box c) v f = in-placed Stood r c (place-ok (pageIn r) (r .accepted) c (v .0) f .inv, place-upright (pageIn r) c (v .1) f, place-deep (pageIn r) (r .accepted) c (v .0) (v .1) (v .2) f .0)
+
+stood : (os : List Act) → Handed F32 os → In Stood (run started os)
+stood os f = run-keeps (In Stood) (λ o. Each F32 (handed o)) next-stood started os (in-started Stood fresh-stood) f
 
 pub upright : (os : List Act) → Handed F32 os → Upright (pageIn (run started os))
-upright os f = run-keeps (In Stood) (λ o. Each F32 (handed o)) next-upright started os (in-started Stood fresh-upright) f
+upright os f = stood os f .1
+
+pub deep : (os : List Act) → Handed F32 os → In Deep (run started os)
+deep os f = stood os f .2
+
+-- the depth never falls
+next-sinks : (r : Run) (o : Act) → In Stood r → Each F32 (handed o) → Stays o → Sinks (pageIn r .depth) (pageIn (next r o) .depth)
+next-sinks r newPage v f s = absurd s
+next-sinks r (width w) v f s = in-widened (λ q l. Sinks (pageIn r .depth) (q .depth)) r w (width-ways (λ q. Sinks (pageIn r .depth) (q .depth)) (pageIn r) w (λ x h. h) (λ x h. h))
+next-sinks r (box c) v f s = in-placed (λ q l. Sinks (pageIn r .depth) (q .depth)) r c (place-deep (pageIn r) (r .accepted) c (v .0) (v .1) (v .2) f .1)
+
+pub sinking : (os more : List Act) → Handed F32 os → Handed F32 more → Each Stays more → In Deep (run (run started os) more) × Sinks (pageIn (run started os) .depth) (pageIn (run (run started os) more) .depth)
+sinking os more f g s =
+    let r = run started os in
+    let w = run-keeps (λ t. In Stood t × Sinks (pageIn r .depth) (pageIn t .depth)) (λ o. Each F32 (handed o) × Stays o)
+    (λ t o p h. (next-stood t o (p .0) (h .0), λ x i. next-sinks t o (p .0) (h .0) (h .1) x (p .1 x i)))
+    r more (stood os f, λ x h. h) (each-both (λ o. Each F32 (handed o)) Stays more g s) in
+    (w .0 .2, w .1)
 
 pub grown : (r : Run) (os : List Act) → In Inv r → Handed F32 os → Each Stays os → In Inv (run r os) × Grows (bandsIn r) (bandsIn (run r os))
 grown r os v f s =

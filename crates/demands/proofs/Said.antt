@@ -1,15 +1,17 @@
 -- From the invariants to the words of the promises.
 use mathlib.Core.Path.{_≡_, refl, sym, ap, _∙_, subst}
-use Prim.Native.Nat.{ℕ, _<_}
+use Prim.Native.Nat.{ℕ, _≤_, _<_}
+use native.Mathlib.Decide.{decLe}
 use native.Mathlib.Omega.{arith}
 use mathlib.Core.Bool.{Bool, true, false, _&&_, cond}
 use mathlib.Core.List.{List, [], _∷_, map}
 use lib.Dec.{T, ltb}
 use lib.Ieee.{Float, nan, inf, fin, binary32, lt, le, eq}
 use lib.ListN.{length, getD}
-use Rattle.f32_laws.specs.Numbers.{zero+, is64}
+use Rattle.f32_laws.specs.Numbers.{larger, zero+, is64}
 use Rattle.f32_laws.specs.Key.{Num}
 use Rattle.f32_laws.proofs.Keys.{le→key, key→le, lt→key}
+use Rattle.f32_laws.proofs.Larger.{larger-key, larger-num}
 use Rattle.f32_laws.proofs.Is64.{at64-is64}
 use Rattle.float.specs.declared.BandNumber.{BandNumber}
 use Rattle.float.specs.declared.Bottom.{Bottom}
@@ -24,18 +26,19 @@ use Rattle.float.specs.Numbers.{Given, allFinite, allAllowed}
 use Rattle.float.specs.Refuse.{sideOf, checkOf}
 use Rattle.float.specs.Bands.{lead, hasFloat, boxOn, none}
 use Rattle.float.specs.Page.{Page}
-use Rattle.float.specs.Place.{Call, cleaned, numbers, inputCheck}
+use Rattle.float.specs.Place.{Call, cleaned, numbers, inputCheck, endOf}
 use Rattle.float.specs.Slot.{recordedOn, innermost}
-use Rattle.demands.specs.Runs.{Each, Pairs, Act, box, handed, Handed, F32, Whole64, after, pageIn, Accepted, boxIn, sideIn, xFrom, farInset, insetAt, NoSmaller, EdgeToEdge, present, Names, Holds, StandsAt, Joins, unjoined, joins, joinsTwo, Bottom64, Page64}
-use Rattle.demands.proofs.Laws.{k, Ins, ins-zero, ins-val, larger-ins, sum-num}
-use Rattle.demands.proofs.Chain.{Chain, chain-at}
-use Rattle.demands.proofs.Heights.{Grows, bandAt, at-lead, at-ins, band-is}
-use Rattle.demands.proofs.Input.{Known, known, cleaned-fits, BottomIs}
+use Rattle.demands.specs.Runs.{Each, Pairs, Act, box, handed, Handed, F32, Whole64, after, pageIn, Accepted, boxIn, sideIn, xFrom, bottom, farInset, high, insetAt, NoSmaller, EdgeToEdge, present, Names, Holds, StandsAt, Joins, unjoined, joins, joinsTwo, Bottom64, Page64}
+use Rattle.demands.proofs.Laws.{k, Ins, top-low, zero-k, ins-zero, ins-val, larger-ins, sum-num}
+use Rattle.demands.proofs.Chain.{Chain, chain-at, chain-last}
+use Rattle.demands.proofs.Heights.{Grows, nothing, bandAt, at-lead, at-ins, at-below, band-is}
+use Rattle.demands.proofs.Input.{Known, known, cleaned-fits, BottomIs, lower-is}
 use Rattle.demands.proofs.Lists.{each-map, each-both, each-at}
 use Rattle.demands.proofs.Numbers.{Numbered, Named, unnamed, bare-numbered}
-use Rattle.demands.proofs.Exact.{two, Q, q-zero, q-larger}
+use Rattle.demands.proofs.Exact.{two, Q, q-zero, q-larger, sum-exact}
 use Rattle.demands.proofs.Bands64.{Band64, band-at}
-use Rattle.demands.proofs.Apart.{Takes, Stands, Beside, Box64, Inv64}
+use Rattle.demands.proofs.Apart.{Takes, Stands, Beside, Box64, Inv64, larger64}
+use Rattle.demands.proofs.Deep.{Deep}
 use Rattle.demands.proofs.Reached.{reached64}
 use Rattle.demands.proofs.Edges.{Boxed}
 
@@ -133,14 +136,15 @@ boxes64 : (g : List Accepted) → Each Box64 g → Each (λ (b : PlacedFloatedBo
 boxes64 [] h = tt
 boxes64 (a ∷ g) h = ((said64 (a .call .width) (h .0 .width), said64 (a .call .height) (h .0 .height), said64 (a .inset) (h .0 .inset), said64 (a .y) (h .0 .y)), boxes64 g (h .1))
 
-pub page64 : (p : Page) (g : List Accepted) → Inv64 p g → Page64 p
-page64 p g v = record {
+pub page64 : (p : Page) (g : List Accepted) → Inv64 p g → Deep p g → Page64 p
+page64 p g v d = record {
   width = said64 (p .width) (v .width);
   bands = each-map Band64 (λ b. T (is64 (b .end)) × T (is64 (b .left)) × T (is64 (b .right))) (p .bands) (λ b q. (said64 (b .end) (q .end), said64 (b .left) (q .inset FloatDirection.Left), said64 (b .right) (q .inset FloatDirection.Right))) (v .bands);
   boxes = subst (Each (λ b. T (is64 (b .width)) × T (is64 (b .height)) × T (is64 (b .«x_inset»)) × T (is64 (b .y)))) (sym (v .inv .boxes)) (boxes64 g (v .boxes));
   leftBottom = bottom64 (p .leftBottom) (v .bottom FloatDirection.Left);
   rightBottom = bottom64 (p .rightBottom) (v .bottom FloatDirection.Right);
   ceiling = bottom64 (p .ceiling) (v .ceiling);
+  depth = bottom64 (p .depth) (subst (BottomIs Q) (sym (d .sides)) (lower-is Q larger64 (p .leftBottom) (p .rightBottom) (v .bottom FloatDirection.Left) (v .bottom FloatDirection.Right)));
 }
 
 pub joins-ins : {r : FloatDirection} {l : List Segment} {x : Float} → Chain (inf true) l → Joins r l x → Ins x
@@ -165,6 +169,31 @@ module _ (l : List Segment) (c : Chain (inf true) l) (i : ℕ) (o : i < length l
 
   pub taken-marked : (s : FloatDirection) → hasFloat s (getD l i none) ≡ false → (a : Accepted) → Box64 a × Stands l a → sideIn a ≡ s → StandsAt a h → ⊥
   taken-marked s e a p u t = subst T (ap (λ (r : FloatDirection). hasFloat r (getD l i none)) u ∙ e) (taken a p t .1)
+
+-- the bands reach down to its bottom: from the last end on no band is marked
+pub ends-in-bands : (l : List Segment) → Chain (inf true) l → (a : Accepted) → Box64 a × Stands l a → T (high a) → T (le (bottom a) (endOf l))
+ends-in-bands l c a (b, s) t = go (decLe (k (bottom a)) (k (endOf l)))
+  where
+    y : Num binary32 (a .y)
+    y = b .y' .num
+
+    z : Num binary32 (endOf l)
+    z = chain-last (inf true) l top-low c .num
+
+    -- the lower of its top and the last end
+    at : Float
+    at = larger (a .y) (endOf l)
+
+    inside : k (endOf l) < k (bottom a) → (k (a .y) ≤ k at) × (k at < k (bottom a))
+    inside h = let m = larger-key y z in (omega arith, omega (arith, sum-exact (b .y) (b .height), lt→key (ins-zero .num) (b .height' .num) t, zero-k))
+
+    unmarked : (r : FloatDirection) → T (hasFloat r nothing) → ⊥
+    unmarked FloatDirection.Left t = t
+    unmarked FloatDirection.Right t = t
+
+    go : Dec (k (bottom a) ≤ k (endOf l)) → T (le (bottom a) (endOf l))
+    go (yes h) = key→le (sum-num (b .y') (b .height')) z h
+    go (no h) = absurd (unmarked (sideIn a) (subst (λ (d : Segment). T (hasFloat (sideIn a) d)) (at-below (inf true) l at c (larger-num y z) (λ o. omega (arith, larger-key y z))) (s at (larger-num y z) (inside (omega arith)) .1)))
 
 -- of every two, by what is known of each
 pairs-map : {A : Type 0} (P : A → Type 0) (R S : A → A → Type 0) (l : List A) → ((x y : A) → P x → P y → R x y → S x y) → Each P l → Pairs R l → Pairs S l

@@ -15,7 +15,6 @@ use Rattle.f32_laws.proofs.Keys.{num, zero-fin, eq→key, key→eq, zero-key}
 use Rattle.f32_laws.proofs.Magnitude.{bias-pos}
 use Rattle.f32_laws.proofs.Plain.{Plain, plain-zero, plain-larger, plain-same, plain-add}
 use Rattle.float.specs.declared.Bottom.{Bottom}
-use Rattle.float.specs.declared.Done.{Done}
 use Rattle.float.specs.declared.FloatDirection.{FloatDirection}
 use Rattle.float.specs.declared.Segment.{Segment}
 use Rattle.float.specs.declared.fit.Ask.{Ask}
@@ -26,14 +25,14 @@ use Rattle.float.specs.Bands.{lead, trail, none, marked, splitAt, lastEnd}
 use Rattle.float.specs.Page.{Page, pageOf, freshContext, fresh}
 use Rattle.float.specs.Fit.{fits}
 use Rattle.float.specs.Search.{Try, State, atStart, atEnd, joined, opened, taller, highTurn, joinTurn, endTurn, fitTurn, startTurn, turn}
-use Rattle.float.specs.Place.{Call, cleaned, askOf, spotOf, Made, endOf, gapped, startedAt, make, recorded, counted, place, widthCheck, withWidth, ifDone, setWidth}
+use Rattle.float.specs.Place.{Call, cleaned, askOf, spotOf, Made, endOf, gapped, startedAt, make, recorded, counted, place, setWidth}
 use Rattle.demands.specs.Runs.{Each, box, handed, F32}
 use Rattle.demands.proofs.Laws.{on-either}
 use Rattle.demands.proofs.Chain.{each-split, each-mark}
 use Rattle.demands.proofs.First.{first-le}
 use Rattle.demands.proofs.Turns.{Ordered, Keeps, search-has}
 use Rattle.demands.proofs.Splits.{started-ways, make-ways}
-use Rattle.demands.proofs.Ways.{place-ways}
+use Rattle.demands.proofs.Ways.{place-ways, width-ways}
 use Rattle.demands.proofs.Lists.{each-append, each-at}
 use Rattle.demands.proofs.Input.{plus-fits, bottomOn, BottomIs, lower-is, counted-is, lowest-is}
 
@@ -59,12 +58,16 @@ pub plain-stands : (x : Float) → Num binary32 x → Plus x → plusZero x ≡ 
 unfolding plusZero
 plain-stands x n p = both (λ (z : Float). z ≡ x) (eq x zero+) (λ t. sym (plain-same n (num (zero-fin binary32)) p plain-zero (eq→key n (num (zero-fin binary32)) t))) (λ t. refl)
 
+pub plus-zero : plusZero zero+ ≡ zero+
+unfolding plusZero
+plus-zero = both (λ (z : Float). z ≡ zero+) (eq zero+ zero+) (λ t. refl) (λ t. refl)
+
 pub plus-twice : (x : Float) → plusZero (plusZero x) ≡ plusZero x
 unfolding plusZero
 plus-twice x = go (eq x zero+) refl
   where
     go : (t : Bool) → eq x zero+ ≡ t → plusZero (plusZero x) ≡ plusZero x
-    go true e = simp (e, plusZero) (both (λ (z : Float). z ≡ zero+) (eq zero+ zero+) (λ t. refl) (λ t. refl))
+    go true e = simp (e, plusZero) plus-zero
     go false e = simp (e, plusZero)
 
 -- ---- a page
@@ -139,7 +142,7 @@ module _ (a : Ask) (f : F32 (a .height)) where
       let b = plain-add (a .height) v f in
       started-ways Kept a l s e y (λ o u. (split-edged l _ _ b h, v)) (λ o. (h, v)) (λ o u. (each-append Edged l _ h (last-plus (inf true) l top-plus h, b), v)) (λ o u. (h, v))
 
-  made-edged : (l : List Segment) (p : Spot) → Plus (p .y) → Each Edged l → Kept (make a l p)
+  pub made-edged : (l : List Segment) (p : Spot) → Plus (p .y) → Each Edged l → Kept (make a l p)
   made-edged l p v h =
       let z = last-plus (inf true) l top-plus h in
       let y = plain-larger z v in
@@ -150,9 +153,9 @@ module _ (a : Ask) (f : F32 (a .height)) where
 
 -- ---- a placement
 module _ (p : Page) (v : Upright p) where
-  lowest-plus : (c : Call) → Plus (c .minY) → Plus (spotOf p c .y)
+  pub spot-plus : (c : Call) → Plus (c .minY) → Plus (spotOf p c .y)
   unfolding spotOf
-  lowest-plus c m = search-has (p .bands) (askOf p c) _ _ (turn-plus (p .bands) (askOf p c) (v .bands)) _ _ (first-le (p .bands) _ _) (lowest-is Plus larger-plus p c m (v .ceiling) (v .bottom))
+  spot-plus c m = search-has (p .bands) (askOf p c) _ _ (turn-plus (p .bands) (askOf p c) (v .bands)) _ _ (first-le (p .bands) _ _) (lowest-is Plus larger-plus p c m (v .ceiling) (v .bottom))
 
   counted-upright : (a : Ask) (i y : Float) → F32 (a .height) → Plus y → Upright (counted p a i y)
   counted-upright a i y f w = record {
@@ -178,16 +181,11 @@ place-upright p c v f =
     let a = askOf p d in
     let s = spotOf p d in
     let h = plus-fits (c .height) (f .1 .0) in
-    let y = lowest-plus p v d (plus-plain (c .minY) (f .1 .1 .0)) in
+    let y = spot-plus p v d (plus-plain (c .minY) (f .1 .1 .0)) in
     let m = made-edged a h (p .bands) s y (v .bands) in
     place-ways (λ r. Upright (r .page)) p c (λ n. v) (counted-upright p v a (s .inset) (s .y) h y)
     (counted-upright (recorded p a (s .inset) (make a (p .bands) s)) (recorded-upright p v a (s .inset) (make a (p .bands) s) (m .0)) a (s .inset) _ h (m .1))
 
 -- ---- the width
 pub wide-upright : (p : Page) (w : Float) → Upright p → Upright (setWidth p w)
-unfolding setWidth
-wide-upright p w v = go (widthCheck (p .boxes) (plusZero w))
-  where
-    go : (d : Done) → Upright (ifDone d (withWidth p (plusZero w)) p)
-    go Done.Accepted = record { bands = v .bands; ceiling = v .ceiling; bottom = v .bottom }
-    go (Done.Refused n) = v
+wide-upright p w v = width-ways Upright p w v (record { bands = v .bands; ceiling = v .ceiling; bottom = v .bottom })

@@ -37,8 +37,9 @@ use Rattle.demands.proofs.Splits.{Taken, start-in}
 use Rattle.demands.proofs.Leads.{search-leads}
 use Rattle.demands.proofs.Seek.{Falls, Asked, Count, no-count, Found, search-law}
 use Rattle.demands.proofs.Make.{MadeOk, make-ok}
-use Rattle.demands.proofs.Input.{Known, known, check-both, plus-fits, cleaned-fits, asked, bottomOn, BottomIs, AtMost, lower-is, counted-is, lowest-is, larger-val, ceiling-keeps, ceiling-takes, lowest-over, low-enough}
+use Rattle.demands.proofs.Input.{Known, known, check-both, plus-fits, cleaned-fits, asked, bottomOn, BottomIs, AtMost, lower-is, counted-is, lowest-is, larger-val, lower-keeps, lower-takes, lowest-over, low-enough}
 use Rattle.demands.proofs.Lists.{each-append, pairs-append, each-map}
+use Rattle.demands.proofs.Ways.{width-ways}
 
 -- ---- the invariant
 -- an accepted y is at or above the ceiling
@@ -152,8 +153,8 @@ module _ (p : Page) (g : List Accepted) (c : Call) (a : Ask) (i x y : Float) (v 
     falls = v .falls;
     bottom = counted-is Val larger-val p a i y (v .bottom) bot;
     tops = each-append _ g e
-        (each-map (Under (p .ceiling)) _ g (λ d u. record { val = u .val; under = ceiling-keeps (p .ceiling) (d .y) y (v .ceiling) w (u .under) }) (v .tops))
-        (record { val = ew; under = ceiling-takes (p .ceiling) (e .y) y (v .ceiling) w (omega (arith, ap k m)) });
+        (each-map (Under (p .ceiling)) _ g (λ d u. record { val = u .val; under = lower-keeps (p .ceiling) (d .y) y (v .ceiling) w (u .under) }) (v .tops))
+        (record { val = ew; under = lower-takes (p .ceiling) (e .y) y (v .ceiling) w (omega (arith, ap k m)) });
     leads = each-append (λ d. T (le (containingLead d) (d .inset))) g e (v .leads) u;
     answers = each-append (λ d. d .x ≡ xFrom (p .width) d) g e (v .answers) r;
     rises = pairs-append (λ d d'. T (le (d .y) (d' .y))) g e (v .rises) (each-map (Under (p .ceiling)) (λ d. T (le (d .y) (e .y))) g (λ d u. key→le (u .val .num) (ew .num) (omega (arith, ap k m, h (d .y) (u .under)))) (v .tops));
@@ -220,7 +221,7 @@ module _ (p : Page) (g : List Accepted) (c : Call) (s : Spot) (v : Inv p g) (q :
         inv = counted-ok p g c a (s .inset) (xOf a (s .inset)) (s .y) v q (f .y) (and-l (inReach (add binary32 (s .y) (a .height))) (inReach (add binary32 (s .inset) (a .width))) u) n (λ z o. omega (arith, f .low, h z o)) (box-noted p c (s .inset) (xOf a (s .inset)) (s .y)) (in-container p c (s .inset) (xOf a (s .inset)) (s .y) r) (x-noted p c (s .inset) (s .y));
         grows = grows-refl (p .bands);
         lies = e (s .y) (f .y) (f .low);
-        sunk = λ t i b u. ceiling-keeps (p .ceiling) (getD (p .bands) i none .end) (s .y) (v .ceiling) (f .y) (t i b u);
+        sunk = λ t i b u. lower-keeps (p .ceiling) (getD (p .bands) i none .end) (s .y) (v .ceiling) (f .y) (t i b u);
       })
       (λ u. refuse-ok p g c Refusal.TooFar v))
       (λ t. both (Step p g c) (near a (s .inset) (m .y))
@@ -232,7 +233,7 @@ module _ (p : Page) (g : List Accepted) (c : Call) (s : Spot) (v : Inv p g) (q :
         inv = counted-ok (recorded p a (s .inset) m) g c a (s .inset) (xOf a (s .inset)) (m .y) (recorded-ok p g a (s .inset) m v q (f .inset) z l D o) q (d .0 .0) x n (λ z o. omega (arith, f .low, d .0 .1, h z o)) (box-noted p c (s .inset) (xOf a (s .inset)) (m .y)) (in-container p c (s .inset) (xOf a (s .inset)) (m .y) r) (x-noted p c (s .inset) (m .y));
         grows = recorded-grows p g a (s .inset) m v q (f .inset) z l D o;
         lies = e (m .y) (d .0 .0) (omega (arith, f .low, d .0 .1));
-        sunk = λ t i b u. ceiling-takes (p .ceiling) _ (m .y) (v .ceiling) (d .0 .0) (recorded-sunk p g a (s .inset) m v q (f .inset) z l D o i b);
+        sunk = λ t i b u. lower-takes (p .ceiling) _ (m .y) (v .ceiling) (d .0 .0) (recorded-sunk p g a (s .inset) m v q (f .inset) z l D o i b);
       })
       (λ w. refuse-ok p g c Refusal.BandsFull v))
       (λ u. refuse-ok p g c Refusal.TooFar v))
@@ -277,6 +278,13 @@ module _ (p : Page) (g : List Accepted) (c : Call) (v : Inv p g) (n : Each Known
   pub spot-in : Taken (p .bands) (askOf p c) (v .chain) (spotOf p c)
   unfolding spotOf
   spot-in = start-in (p .bands) (askOf p c) (v .chain) _ _ (first-le (p .bands) _ _) (lowest-val .num) (first-end (p .bands) _ _)
+
+  -- the made place is no higher
+  pub made-low : Val (make (askOf p c) (p .bands) (spotOf p c) .y) × (k (spotOf p c .y) ≤ k (make (askOf p c) (p .bands) (spotOf p c) .y))
+  made-low =
+      let q = asked p c (v .width) n in
+      let f = spot-ok (no-count (p .bands)) tt tt in
+      make-ok (p .bands) (askOf p c) (firstAllowed p) (lowest p c) (spotOf p c) (v .chain) q (v .falls (sideOf (c .side))) (v .first) (no-count (p .bands)) f (le→key (q .cbLead .num) (f .inset .num) spot-leads) .0
 
   -- rule 2 never decides: it passes over what rule 1 has passed already
   pub first-idle : Sunk p → firstBelow (p .bands) (firstAllowed p) (lowest p c) ≡ firstBelow (p .bands) 0 (lowest p c)
@@ -337,9 +345,4 @@ wide-ok p g w v f =
     (λ n. (v, refl))
 
 pub wide-sunk : (p : Page) (w : Float) → Sunk p → Sunk (setWidth p w)
-unfolding setWidth
-wide-sunk p w t = go (widthCheck (p .boxes) (plusZero w))
-  where
-    go : (d : Done) → Sunk (ifDone d (withWidth p (plusZero w)) p)
-    go Done.Accepted = t
-    go (Done.Refused n) = t
+wide-sunk p w t = width-ways Sunk p w t t

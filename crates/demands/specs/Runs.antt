@@ -43,6 +43,11 @@ abbrev pub Pairs : {A : Type 0} → (A → A → Type 0) → List A → Type 0
 Pairs P [] = Unit {0}
 Pairs P (x ∷ xs) = Each (P x) xs × Pairs P xs
 
+-- P holds of one at least
+abbrev pub Some : {A : Type 0} → (A → Type 0) → List A → Type 0
+Some P [] = ⊥
+Some P (x ∷ xs) = P x ⊎ Some P xs
+
 -- ---- runs
 
 -- A call that changes a page, with any codes and numbers. Questions and calculators hand back no page.
@@ -202,9 +207,12 @@ pub record ExactSum (x y s : Float) : Type 0 where
   pub second : (y ≡ in64 binary32 k) × (natAbs k ≤ 2 ^ 24)
   pub sum : (s ≡ in64 binary32 (j +ℤ k)) × (natAbs (j +ℤ k) ≤ 2 ^ 24)
 
--- width and height are above zero
+-- height is above zero, and so is width
+abbrev pub high : Accepted → Bool
+high a = lt zero+ (a .call .height)
+
 abbrev pub sized : Accepted → Bool
-sized a = lt zero+ (a .call .width) && lt zero+ (a .call .height)
+sized a = lt zero+ (a .call .width) && high a
 
 abbrev pub shareHeight : Accepted → Accepted → Bool
 shareHeight a b = lt (a .y) (bottom b) && lt (b .y) (bottom a)
@@ -233,6 +241,18 @@ Holds b h = T (le (b .start) h) × T (lt h (b .end))
 
 abbrev pub StandsAt : Accepted → Float → Type 0
 StandsAt a h = T (le (a .y) h) × T (lt h (bottom a))
+
+-- ---- how deep the page is (3/14)
+
+-- x is at or above a kept height; where none is kept nothing is
+abbrev pub AtOrAbove : Float → Bottom → Type 0
+AtOrAbove x Bottom.None = ⊥
+AtOrAbove x (Bottom.At y) = T (le x y)
+
+-- d is the largest bottom of these placements: one of them has it and none has a larger one; it is missing exactly where there is no placement
+abbrev pub Largest : List Accepted → Bottom → Type 0
+Largest g Bottom.None = g ≡ []
+Largest g (Bottom.At d) = Some (λ a. bottom a ≡ d) g × Each (λ a. T (le (bottom a) d)) g
 
 -- ---- a call without its clear (2/14): none, at min_y raised to the cleared bottoms
 
@@ -295,3 +315,4 @@ pub record Page64 (p : Page) : Type 0 where
   pub leftBottom : Bottom64 (p .leftBottom)
   pub rightBottom : Bottom64 (p .rightBottom)
   pub ceiling : Bottom64 (p .ceiling)
+  pub depth : Bottom64 (p .depth)

@@ -39,7 +39,7 @@ module _ (p : FloatContext) (w v : Float) (k : Check) (f : v ≡ plusZero w) (g 
   width-fixed h e b = simp (sym f, widthCheck, sym g, e, ne-eqb (length (take (p .«box_count») (p .boxes))) 0 (λ z. omega (arith, length-take (p .«box_count») (p .boxes))))
 
   pub width-set : (n : ℕ) → length (p .bands) ≡ 96 → k ≡ Check.Passed → p .«box_count» ≤ 0 → n ≡ min (p .count) 96
-      → _≡_ {A = Widened} (record { answer = Done.Accepted; page = record { width = v; bands = p .bands; count = n; boxes = p .boxes; «box_count» = p .«box_count»; «left_bottom» = p .«left_bottom»; «right_bottom» = p .«right_bottom»; ceiling = p .ceiling; «left_first» = p .«left_first»; «right_first» = p .«right_first» } }) (widthOf p w)
+      → _≡_ {A = Widened} (record { answer = Done.Accepted; page = record { width = v; bands = p .bands; count = n; boxes = p .boxes; «box_count» = p .«box_count»; «left_bottom» = p .«left_bottom»; «right_bottom» = p .«right_bottom»; ceiling = p .ceiling; depth = p .depth; «left_first» = p .«left_first»; «right_first» = p .«right_first» } }) (widthOf p w)
   unfolding widthOf widthCheck pageOf stored
   width-set n h e b m =
       let z : p .«box_count» ≡ 0 = omega arith in

@@ -76,6 +76,10 @@ abbrev pub saidThreshold : Threshold → Said
 saidThreshold (Threshold.Answer b) = values (bottom b ∷ [])
 saidThreshold (Threshold.Refused n) = refused (numberOf n)
 
+-- the largest bottom, if any
+abbrev pub saidDepth : Bottom → Said
+saidDepth b = values (bottom b ∷ [])
+
 -- the box's number, if any
 abbrev pub saidInnermost : Innermost → Said
 saidInnermost (Innermost.Answer k) = values (box k ∷ [])

@@ -16,6 +16,7 @@ pageWith h bands boxes = record {
   «left_bottom» = h .«left_bottom»;
   «right_bottom» = h .«right_bottom»;
   ceiling = h .ceiling;
+  depth = h .depth;
   «left_first» = h .«left_first»;
   «right_first» = h .«right_first»;
 }
@@ -29,6 +30,7 @@ headOf p = record {
   «left_bottom» = p .«left_bottom»;
   «right_bottom» = p .«right_bottom»;
   ceiling = p .ceiling;
+  depth = p .depth;
   «left_first» = p .«left_first»;
   «right_first» = p .«right_first»;
 }

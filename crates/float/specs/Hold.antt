@@ -66,6 +66,7 @@ headAfter h a p = record {
   «left_bottom» = bottomAfter (a .side) FloatDirection.Left (h .«left_bottom») (add binary32 (p .y) (a .height));
   «right_bottom» = bottomAfter (a .side) FloatDirection.Right (h .«right_bottom») (add binary32 (p .y) (a .height));
   ceiling = lower (h .ceiling) (Bottom.At (p .y));
+  depth = lower (h .depth) (Bottom.At (add binary32 (p .y) (a .height)));
   «left_first» = numberAfter (a .side) FloatDirection.Left (h .«left_first») (p .first);
   «right_first» = numberAfter (a .side) FloatDirection.Right (h .«right_first») (p .first);
 }

@@ -18,7 +18,7 @@ maxBands = 96
 abbrev pub maxBoxes : ℕ
 maxBoxes = 64
 
--- the page: its live bands, its boxes in the order of acceptance, and what is kept: of each side a bottom and a first band number, and the ceiling
+-- the page: its live bands, its boxes in the order of acceptance, and what is kept: of each side a bottom and a first band number, the ceiling, and the depth (3/14)
 pub record Page : Type 0 where
   pub width : Float
   pub bands : List Segment
@@ -26,6 +26,7 @@ pub record Page : Type 0 where
   pub leftBottom : Bottom
   pub rightBottom : Bottom
   pub ceiling : Bottom
+  pub depth : Bottom
   pub leftFirst : ℕ
   pub rightFirst : ℕ
 
@@ -42,6 +43,7 @@ pageOf p = record {
   leftBottom = p .«left_bottom»;
   rightBottom = p .«right_bottom»;
   ceiling = p .ceiling;
+  depth = p .depth;
   leftFirst = p .«left_first»;
   rightFirst = p .«right_first»;
 }
@@ -61,6 +63,7 @@ stored q p = record {
   «left_bottom» = q .leftBottom;
   «right_bottom» = q .rightBottom;
   ceiling = q .ceiling;
+  depth = q .depth;
   «left_first» = q .leftFirst;
   «right_first» = q .rightFirst;
 }
@@ -76,6 +79,7 @@ freshContext = record {
   «left_bottom» = Bottom.None;
   «right_bottom» = Bottom.None;
   ceiling = Bottom.None;
+  depth = Bottom.None;
   «left_first» = 0;
   «right_first» = 0;
 }

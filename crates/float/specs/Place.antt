@@ -139,11 +139,12 @@ recorded p a i m = record {
   leftBottom = p .leftBottom;
   rightBottom = p .rightBottom;
   ceiling = p .ceiling;
+  depth = p .depth;
   leftFirst = onSide (a .side) (max (p .leftFirst) (m .start)) (p .leftFirst);
   rightFirst = onSide (a .side) (p .rightFirst) (max (p .rightFirst) (m .start));
 }
 
--- what every accepted box does, one of no height too: its side's bottom, the ceiling, and the box itself
+-- what every accepted box does, one of no height too: its side's bottom, the ceiling, the depth (3/14), and the box itself
 abbrev pub boxOf : Ask → (inset y : Float) → PlacedFloatedBox
 boxOf a i y = record { width = a .width; height = a .height; «x_inset» = i; y = y; side = a .side }
 
@@ -155,6 +156,7 @@ counted p a i y = record {
   leftBottom = onSide (a .side) (lower (p .leftBottom) (Bottom.At (add binary32 y (a .height)))) (p .leftBottom);
   rightBottom = onSide (a .side) (p .rightBottom) (lower (p .rightBottom) (Bottom.At (add binary32 y (a .height))));
   ceiling = lower (p .ceiling) (Bottom.At y);
+  depth = lower (p .depth) (Bottom.At (add binary32 y (a .height)));
   leftFirst = p .leftFirst;
   rightFirst = p .rightFirst;
 }
@@ -218,7 +220,7 @@ widthCheck boxes w =
     ]
 
 abbrev pub withWidth : Page → Float → Page
-withWidth p w = record { width = w; bands = p .bands; boxes = p .boxes; leftBottom = p .leftBottom; rightBottom = p .rightBottom; ceiling = p .ceiling; leftFirst = p .leftFirst; rightFirst = p .rightFirst }
+withWidth p w = record { width = w; bands = p .bands; boxes = p .boxes; leftBottom = p .leftBottom; rightBottom = p .rightBottom; ceiling = p .ceiling; depth = p .depth; leftFirst = p .leftFirst; rightFirst = p .rightFirst }
 
 abbrev pub ifDone {ℓ} : {A : Type ℓ} → Done → A → A → A
 ifDone Done.Accepted new old = new

@@ -9,6 +9,7 @@ use Rattle.f32_laws.specs.Numbers.{larger, smaller}
 use Rattle.float.specs.declared.BandNumber.{BandNumber}
 use Rattle.float.specs.declared.BfcAnswer.{BfcAnswer}
 use Rattle.float.specs.declared.BfcSlot.{BfcSlot}
+use Rattle.float.specs.declared.Bottom.{Bottom}
 use Rattle.float.specs.declared.BoxNumber.{BoxNumber}
 use Rattle.float.specs.declared.Clear.{Clear}
 use Rattle.float.specs.declared.ContentAnswer.{ContentAnswer}
@@ -51,6 +52,10 @@ hasActiveFloats p x =
 -- `cleared_threshold`: refusal 1
 unfoldable pub clearedThreshold : Page → ℕ → Threshold
 clearedThreshold p c = elim (checkOf (ltb c 4) []) [ Check.Passed ↦ Threshold.Answer (cleared p (clearOf c)) | Check.Refused n ↦ Threshold.Refused n ]
+
+-- `depth` (3/14): the largest bottom of all accepted boxes, as the page keeps it
+unfoldable pub depthOf : Page → Bottom
+depthOf p = p .depth
 
 -- the box last recorded in a band on a side; none where the mark is not set
 abbrev pub recordedOn : FloatDirection → Segment → BoxNumber

@@ -165,9 +165,11 @@ fn head_after(head: Head, a: Ask, p: Plan) -> Head
     let left_bottom = head.left_bottom;
     let right_bottom = head.right_bottom;
     let ceiling = head.ceiling;
+    let depth = head.depth;
     let left = place::bottom_after(side, FloatDirection::Left, left_bottom, bottom);
     let right = place::bottom_after(side, FloatDirection::Right, right_bottom, bottom);
     let top = clearing::lower(ceiling, Bottom::At(p.y));
+    let deep = clearing::lower(depth, Bottom::At(bottom));
     Head {
         width: head.width,
         count: p.count,
@@ -175,6 +177,7 @@ fn head_after(head: Head, a: Ask, p: Plan) -> Head
         left_bottom: left,
         right_bottom: right,
         ceiling: top,
+        depth: deep,
         left_first: place::number_after(side, FloatDirection::Left, head.left_first, p.first),
         right_first: place::number_after(side, FloatDirection::Right, head.right_first, p.first),
     }

@@ -107,6 +107,7 @@ pub struct FloatContext {
     pub left_bottom: Bottom,
     pub right_bottom: Bottom,
     pub ceiling: Bottom,
+    pub depth: Bottom,
     pub left_first: usize,
     pub right_first: usize,
 }
@@ -119,6 +120,7 @@ pub struct Head {
     pub left_bottom: Bottom,
     pub right_bottom: Bottom,
     pub ceiling: Bottom,
+    pub depth: Bottom,
     pub left_first: usize,
     pub right_first: usize,
 }

@@ -12,7 +12,7 @@ ghost use Prim.Native.Nat.{_≤_};
 ghost use lib.ListN.{length, take};
 ghost use Rattle.float.specs.Bands.{bare, sameSide};
 ghost use Rattle.float.specs.Page.{freshContext, pageOf, noBox};
-ghost use Rattle.float.specs.Slot.{hasFloats, floatsOf, listOf, ofSide};
+ghost use Rattle.float.specs.Slot.{hasFloats, depthOf, floatsOf, listOf, ofSide};
 ghost use Rattle.f32_laws.specs.Numbers.{«zero+»};
 
 fn no_band() -> Segment
@@ -99,6 +99,7 @@ impl FloatContext {
             left_bottom: Bottom::None,
             right_bottom: Bottom::None,
             ceiling: Bottom::None,
+            depth: Bottom::None,
             left_first: 0,
             right_first: 0,
         }
@@ -109,6 +110,13 @@ impl FloatContext {
         ensures { λ r. ⌜ r ≡ hasFloats (pageOf self) ⌝ }
     {
         0 < self.box_count
+    }
+
+    // The largest bottom of the accepted boxes, none where there is none.
+    pub fn depth(self) -> Bottom
+        ensures { λ r. ⌜ r ≡ depthOf (pageOf self) ⌝ }
+    {
+        self.depth
     }
 
     // The accepted boxes of the left side.

@@ -43,6 +43,7 @@ impl FloatContext {
         let left = self.left_bottom;
         let right = self.right_bottom;
         let ceiling = self.ceiling;
+        let depth = self.depth;
         Head {
             width: self.width,
             count: self.count,
@@ -50,6 +51,7 @@ impl FloatContext {
             left_bottom: left,
             right_bottom: right,
             ceiling: ceiling,
+            depth: depth,
             left_first: self.left_first,
             right_first: self.right_first,
         }

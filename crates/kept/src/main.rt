@@ -17,7 +17,7 @@ const RIGHT: u8 = 1;
 
 const NEITHER: u8 = 0;
 
-const BOTH: u8 = 3;
+const RIGHTS: u8 = 2;
 
 // The answers of three placements, and the page after them.
 pub struct Kept {
@@ -108,17 +108,22 @@ fn print_slot(answer: ContentAnswer) {
     }
 }
 
+fn print_bottom(name: &[u8], bottom: Bottom) {
+    print_word(name);
+    match bottom {
+        Bottom::At(y) => {
+            print_word(b"y ");
+            print_number(y);
+            print_word(b"\n");
+        }
+        Bottom::None => print_word(b"none\n"),
+    }
+}
+
 fn print_below(answer: Threshold) {
     match answer {
-        Threshold::Answer(bottom) => match bottom {
-            Bottom::At(y) => {
-                print_word(b"below both: y ");
-                print_number(y);
-                print_word(b"\n");
-            }
-            Bottom::None => print_word(b"below both: anywhere\n"),
-        },
-        Threshold::Refused(_) => print_word(b"below both: refused\n"),
+        Threshold::Answer(bottom) => print_bottom(b"below the right box: ", bottom),
+        Threshold::Refused(_) => print_word(b"below the right box: refused\n"),
     }
 }
 
@@ -132,5 +137,6 @@ fn main() {
     print_placed(b"third box: ", refused);
     let page = kept.page;
     print_slot(page.find_content_slot(0.0, 0.0, 0.0, NEITHER, BandNumber::None));
-    print_below(page.cleared_threshold(BOTH));
+    print_below(page.cleared_threshold(RIGHTS));
+    print_bottom(b"depth: ", page.depth());
 }

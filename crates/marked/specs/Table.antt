@@ -1,9 +1,9 @@
--- Document 01's twelve marked examples and its tape as one table, with the boxes that their bands name (1/14), and the theorem that the definitions give every figure in it.
+-- Document 01's twelve marked examples and its tape as one table, with the boxes that their bands name (1/14) and how deep their pages are (3/14), and the theorem that the definitions give every figure in it.
 use Prim.Native.Nat.{ℕ}
 use mathlib.Core.Path.{_≡_, refl}
 use mathlib.Core.Bool.{Bool, true, false, _&&_, cond}
 use mathlib.Core.List.{List, [], _∷_, _++_}
-use lib.IntN.{pos}
+use lib.IntN.{ℤ, pos, negsuc}
 use lib.Count.{trailingZeros}
 use lib.Dec.{eqb}
 use lib.ListN.{length}
@@ -13,18 +13,18 @@ use Rattle.float.specs.declared.BandNumber.{BandNumber}
 use Rattle.float.specs.declared.FloatContext.{FloatContext}
 use Rattle.float.specs.Numbers.{plusZero, finite, within, inReach, allFinite, allAllowed}
 use Rattle.float.specs.Refuse.{checkOf}
-use Rattle.float.specs.Answers.{Value, float, count, truth, missing, Said, refused, values, saidPlace, saidDone, saidContent, saidInnermost}
+use Rattle.float.specs.Answers.{Value, float, count, truth, missing, Said, refused, values, saidPlace, saidDone, saidContent, saidDepth, saidInnermost}
 use Rattle.float.specs.Bands.{splitAt, markAll, lastEnd, firstBelow}
 use Rattle.float.specs.Page.{pageOf, stored, front, freshContext}
 use Rattle.float.specs.Clear.{lower, raiseTo, cleared}
 use Rattle.float.specs.Fit.{passes, placedAt, fits}
 use Rattle.float.specs.Search.{joined, taller, highTurn, joinTurn, endTurn, fitTurn, startTurn, search, searchFrom}
 use Rattle.float.specs.Place.{Call, lowest, spotOf, walked, make, high, flat, put, admitted, checked, place, placeOf, widthCheck, setWidth, widthOf}
-use Rattle.float.specs.Slot.{ContentCall, innermost, active, seek, contentSlot, content}
+use Rattle.float.specs.Slot.{ContentCall, depthOf, innermost, active, seek, contentSlot, content}
 use Rattle.tape.specs.Bytes.{f32At, digits, float as floatText, decimals, decimal, fields}
 use Rattle.tape.specs.Record.{afterAt, readOf}
 use Rattle.tape.specs.Lines.{refusedLine, doneLine, placeLine, band, contentLine}
-use Rattle.tape.specs.Tape.{freshState, stepOf, run, linesOf}
+use Rattle.tape.specs.Tape.{freshState, stepOf, run, linesOf, runs, pageAfter, depthAfter}
 
 -- what is done to the page, and what it must say by the paper's numbers and values
 pub data Entry : Type 0 where
@@ -35,7 +35,9 @@ pub data Entry : Type 0 where
   touch : ℕ → ℕ → Said → Entry
   names : ℕ → Value → Value → Entry
   slot : ContentCall → Said → Entry
+  deep : Value → Entry
   tape : List ℕ → List ℕ → Entry
+  deepAfter : List ℕ → ℤ → Entry
 
 -- a whole number, and the bits of a float
 abbrev pub n : ℕ → Float
@@ -65,6 +67,11 @@ same [] (y ∷ ys) = false
 same (x ∷ xs) [] = false
 same (x ∷ xs) (y ∷ ys) = eqb x y && same xs ys
 
+-- what is returned to C: from 0 up, or below
+abbrev pub returned : ℤ → List ℕ
+returned (pos k) = 0 ∷ k ∷ []
+returned (negsuc k) = 1 ∷ k ∷ []
+
 -- the box that stands innermost in the band i on the side d (1/14)
 abbrev pub touches : FloatContext → ℕ → ℕ → Said → Bool
 touches p i d s = same (told (saidInnermost (innermost (pageOf p) (BandNumber.At i) d))) (told s)
@@ -79,7 +86,9 @@ holds (bands k ∷ es) p = eqb (length (pageOf p .bands)) k && holds es p
 holds (touch i d s ∷ es) p = touches p i d s && holds es p
 holds (names i l r ∷ es) p = touches p i 0 (values (l ∷ [])) && touches p i 1 (values (r ∷ [])) && holds es p
 holds (slot c s ∷ es) p = same (told (saidContent (content (pageOf p) c))) (told s) && holds es p
+holds (deep v ∷ es) p = same (told (saidDepth (depthOf (pageOf p)))) (told (values (v ∷ []))) && holds es p
 holds (tape t ls ∷ es) p = same (linesOf t) ls && holds es p
+holds (deepAfter t k ∷ es) p = same (returned (depthAfter t)) (returned k) && holds es p
 
 -- ---- the calls of the examples: min_y 0, insets 0 and no clear unless said; the answer x, y, steps
 abbrev pub at : ℕ → ℕ → ℕ → Said
@@ -93,6 +102,10 @@ left w h x y k = full 0 0 (n w) (n h) (n 0) (n 0) (n 0) (at x y k)
 
 abbrev pub right : ℕ → ℕ → ℕ → ℕ → ℕ → Entry
 right w h x y k = full 1 0 (n w) (n h) (n 0) (n 0) (n 0) (at x y k)
+
+-- the page is so deep (3/14)
+abbrev pub down : ℕ → Entry
+down y = deep (float (n y))
 
 -- a content question at y with a clear: band, x, y, width
 abbrev pub ask : ℕ → ℕ → Value → ℕ → ℕ → ℕ → Entry
@@ -120,8 +133,11 @@ pub table : List Entry
 table =
     -- 1: two bands; 2; 3, clearing left: below the left box and beside the right one (2/14), and before it a content question that lands there
     -- 1/14: the gap above names no box, a band added below the new one alone; a band that is not there, and an unknown side
+    -- 3/14: a fresh page has no depth; the last box does not end lowest
     fresh
+    ∷ deep missing
     ∷ left 10 10 0 0 0
+    ∷ down 10
     ∷ bands 2
     ∷ names 0 missing missing
     ∷ names 1 (count 0) missing
@@ -132,13 +148,14 @@ table =
     ∷ names 2 missing (count 1)
     ∷ ask 0 1 (count 2) 0 10 90
     ∷ full 0 1 (n 10) (n 5) (n 0) (n 0) (n 0) (at 0 10 0)
+    ∷ down 30
     -- 4; 1/14: the box after it is the third
     ∷ fresh
     ∷ left 100 10 0 0 0
     ∷ left 50 0 0 0 1
     ∷ left 10 10 0 10 1
     ∷ names 2 (count 2) missing
-    -- 5, with insets 0 and 60; 6; 7: five bands as before it, for nothing is split at 55; 8; 1/14: the parts of a split name the same box
+    -- 5, with insets 0 and 60; 6; 7: five bands as before it, for nothing is split at 55; 8; 1/14: the parts of a split name the same box; 3/14: a refused box makes the page no deeper
     ∷ fresh
     ∷ left 10 30 0 0 0
     ∷ full 0 0 (n 10) (n 60) (n 0) (n 0) (n 60) (at 10 0 1)
@@ -152,10 +169,20 @@ table =
     ∷ names 4 (count 4) missing
     ∷ bands 5
     ∷ ask 56 0 (count 4) 40 56 0
-    -- 9, content clearing left
+    ∷ full 2 0 (n 10) (n 90) (n 0) (n 0) (n 0) (refused 1)
+    ∷ down 60
+    -- 9, content clearing left; 3/14: with no band the box of no height makes the page 20 deep
     ∷ fresh
     ∷ full 0 0 (n 50) (n 0) (n 20) (n 0) (n 0) (at 0 20 0)
+    ∷ bands 0
+    ∷ down 20
     ∷ ask 0 1 missing 0 0 100
+    -- 3/14, off whole 64ths: -1.4 + 2.4 is rounded up, past 1, where the last band ends
+    ∷ fresh
+    ∷ full 0 0 (n 10) (n 4) (neg (n 3)) (n 0) (n 0) (values (float (n 0) ∷ float (neg (n 3)) ∷ count 0 ∷ []))
+    ∷ full 0 0 (n 10) (b 0x4019_999a) (b 0xbfb3_3333) (n 0) (n 0) (values (float (n 10) ∷ float (b 0xbfb3_3333) ∷ count 0 ∷ []))
+    ∷ ask 1 0 missing 0 1 100
+    ∷ deep (float (b 0x3f80_0001))
     -- 10: 40.0005, then 40.01
     ∷ fresh
     ∷ left 60 10 0 0 0
@@ -163,16 +190,19 @@ table =
     ∷ fresh
     ∷ left 60 10 0 0 0
     ∷ full 0 0 (b 0x4220_0a3d) (n 10) (n 0) (n 0) (n 0) (at 0 10 1)
-    -- 11: 65,536, the next f32 above it, NaN with a negative height
+    -- 11: 65,536, the next f32 above it, NaN with a negative height; 3/14: it makes no page deeper
     ∷ fresh
     ∷ width (b 0x4780_0000) (values [])
     ∷ width (b 0x4780_0001) (refused 3)
     ∷ full 0 0 nan (neg (n 1)) (n 0) (n 0) (n 0) (refused 2)
-    -- 12, and the tape of "The tape"
+    ∷ deep missing
+    -- 12, and the tape of "The tape"; 3/14: what C is told of the page after each, -100 and the bits of 30
     ∷ tape [] []
+    ∷ deepAfter [] (negsuc 99)
     ∷ tape firstTape firstLines
+    ∷ deepAfter firstTape (pos 0x41f0_0000)
     ∷ []
 
 pub marked-examples : holds table freshContext ≡ true
-unfolding innermost holds same allWritten table firstTape firstLines pageOf stored front freshContext lower raiseTo cleared splitAt markAll lastEnd firstBelow passes placedAt fits joined taller highTurn joinTurn endTurn fitTurn startTurn search searchFrom plusZero finite within inReach allFinite allAllowed checkOf lowest spotOf walked make high flat put admitted checked place placeOf widthCheck setWidth widthOf active seek contentSlot content f32At digits floatText decimals decimal fields afterAt readOf refusedLine doneLine placeLine band contentLine freshState stepOf run linesOf larger smaller zero+ tol add sub lt le eq ofBits ofFields ofInt neg toBits sum round units odd size span climb trailingZeros
+unfolding depthOf innermost holds same allWritten table firstTape firstLines pageOf stored front freshContext lower raiseTo cleared splitAt markAll lastEnd firstBelow passes placedAt fits joined taller highTurn joinTurn endTurn fitTurn startTurn search searchFrom plusZero finite within inReach allFinite allAllowed checkOf lowest spotOf walked make high flat put admitted checked place placeOf widthCheck setWidth widthOf active seek contentSlot content f32At digits floatText decimals decimal fields afterAt readOf refusedLine doneLine placeLine band contentLine freshState stepOf run linesOf runs pageAfter depthAfter larger smaller zero+ tol add sub lt le eq ofBits ofFields ofInt neg toBits sum round units odd size span climb trailingZeros
 marked-examples = refl

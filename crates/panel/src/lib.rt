@@ -1,6 +1,6 @@
-// The boundary for C and Rust: the tape's run and a question on the page after it, on numbers and byte slices alone.
+// The boundary for C and Rust: the tape's run and questions on the page after it, on numbers and byte slices alone.
 ghost use mathlib.Core.Path.{_≡_};
-ghost use Rattle.tape.specs.Tape.{linesOf, returned, filled, innermostAfter};
+ghost use Rattle.tape.specs.Tape.{linesOf, returned, filled, innermostAfter, depthAfter};
 
 #[no_mangle]
 pub extern "C" fn bulameki_run_tape(tape: &[u8], answers: &mut [u8]) -> i64
@@ -14,4 +14,11 @@ pub extern "C" fn bulameki_innermost(tape: &[u8], band: usize, side: u8) -> i64
     ensures { λ r. ⌜ r ≡ innermostAfter (now (tape .entry)) band side ⌝ }
 {
     tape::innermost(tape, band, side)
+}
+
+#[no_mangle]
+pub extern "C" fn bulameki_depth(tape: &[u8]) -> i64
+    ensures { λ r. ⌜ r ≡ depthAfter (now (tape .entry)) ⌝ }
+{
+    tape::depth(tape)
 }

@@ -1,6 +1,6 @@
--- Which box stands innermost after a tape: the number that is returned, and what is run of the tape.
+-- What is asked of the page after a tape: the number that is returned, and what is run of the tape.
 use Prim.Native.Nat.{ℕ, zero, suc, _≤_, _<_, min}
-use mathlib.Core.Path.{_≡_, sym, ap, _∙_, subst⁻¹}
+use mathlib.Core.Path.{_≡_, sym, ap, _∙_, subst, subst⁻¹}
 use mathlib.Core.List.{List}
 use native.Mathlib.Decide.{decLe}
 use native.Mathlib.Omega.{arith}
@@ -9,9 +9,11 @@ use mir.Syntax.{w64}
 use mir.Val.{SFits, toZ, ofZ}
 use mir.ValLaws.{toZ-ofZ}
 use lib.IntN.{ℤ, pos, negℤ, _-ℤ_, +ℤ-idl}
+use lib.Ieee.{Float, binary32, toBits}
 use lib.ListN.{length, take, getD}
 use lib.Seq.{take-all}
 use Rattle.float.specs.declared.BandNumber.{BandNumber}
+use Rattle.float.specs.declared.Bottom.{Bottom}
 use Rattle.float.specs.declared.BoxNumber.{BoxNumber}
 use Rattle.float.specs.declared.FloatContext.{FloatContext}
 use Rattle.float.specs.declared.Innermost.{Innermost}
@@ -20,10 +22,10 @@ use Rattle.float.specs.declared.Segment.{Segment}
 use Rattle.float.specs.Bands.{none}
 use Rattle.float.specs.Page.{Page, pageOf}
 use Rattle.float.specs.Refuse.{numberOf}
-use Rattle.float.specs.Slot.{innermost}
+use Rattle.float.specs.Slot.{depthOf, innermost}
 use Rattle.tape.specs.declared.run.Ended.{Ended}
-use Rattle.tape.specs.Put.{Ends}
-use Rattle.tape.specs.Tape.{freshState, runs, pageAfter, returnedBox, innermostAfter}
+use Rattle.tape.specs.Put.{Left}
+use Rattle.tape.specs.Tape.{freshState, runs, pageAfter, returnedBox, innermostAfter, returnedHeight, depthAfter}
 
 -- ---- the number that is returned
 
@@ -43,6 +45,12 @@ box-told {a} {b} {k} e f h = toZ-ofZ w64 (pos k) h ∙ sym (ap returnedBox e ∙
 
 pub none-told : {a : Innermost} {b : BoxNumber} → a ≡ Innermost.Answer b → b ≡ BoxNumber.None → negℤ (pos 100) ≡ returnedBox a
 none-told e f = sym (ap returnedBox e ∙ ap (λ (x : BoxNumber). returnedBox (Innermost.Answer x)) f)
+
+pub height-told : {b : Bottom} {y : Float} {k : ℕ} → k ≡ toBits binary32 y → b ≡ Bottom.At y → SFits w64 (pos k) → toZ w64 k ≡ returnedHeight b
+height-told {k = k} e f h = toZ-ofZ w64 (pos k) h ∙ ap pos e ∙ sym (ap returnedHeight f)
+
+pub no-height-told : {b : Bottom} → b ≡ Bottom.None → negℤ (pos 100) ≡ returnedHeight b
+no-height-told f = sym (ap returnedHeight f)
 
 module _ (n : Refusal) {k : ℕ} (e : k ≡ numberOf n) where
   pub number-fits : SFits w64 (pos k)
@@ -75,7 +83,15 @@ module _ (t : List ℕ) {n : ℕ} (h : (n ≤ min (length t) 65536) × (length t
       go (yes l) = ap pageAfter (take-all n t (let e = h .1 l in omega arith))
       go (no l) = nothing (omega arith)
 
-  -- the band that was picked is asked, on the page that the run left
-  pub box-after : (s : ℕ) {a b : List ℕ} {k : ℕ} {r : Ended} {x : Innermost} → Ends (take n t) a b k r → ((p : Page) (bs : List Segment) → length bs ≡ 96 → p .bands ≡ take (r .count) bs → r .band ≡ getD bs (min k 95) none → x ≡ innermost p (BandNumber.At k) s) → returnedBox x ≡ innermostAfter t k s
-  unfolding innermostAfter
-  box-after s {k = k} e f = ap returnedBox (f (pageOf (pageAfter (take n t))) (e .bands) (e .long) (e .live) (e .picked) ∙ ap (λ (p : FloatContext). innermost (pageOf p) (BandNumber.At k) s) same-page)
+  -- what was run leaves the page that the whole tape leaves
+  pub left-same : {k : ℕ} {r : Ended} → Left (pageOf (pageAfter (take n t))) k r → Left (pageOf (pageAfter t)) k r
+  left-same {k} {r} = subst (λ (p : FloatContext). Left (pageOf p) k r) same-page
+
+-- the band that was picked is asked, on the page that was left
+pub box-after : (t : List ℕ) (s : ℕ) {k : ℕ} {r : Ended} {x : Innermost} → Left (pageOf (pageAfter t)) k r → ((p : Page) (bs : List Segment) → length bs ≡ 96 → p .bands ≡ take (r .count) bs → r .band ≡ getD bs (min k 95) none → x ≡ innermost p (BandNumber.At k) s) → returnedBox x ≡ innermostAfter t k s
+unfolding innermostAfter
+box-after t s e f = ap returnedBox (f (pageOf (pageAfter t)) (e .bands) (e .long) (e .live) (e .picked))
+
+pub depth-after : (t : List ℕ) {k : ℕ} {r : Ended} → Left (pageOf (pageAfter t)) k r → returnedHeight (r .depth) ≡ depthAfter t
+unfolding depthAfter depthOf
+depth-after t e = ap returnedHeight (e .depth)

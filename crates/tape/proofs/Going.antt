@@ -95,18 +95,22 @@ module _ (t a₀ : List ℕ) {a b : List ℕ} {s s' : State} {i n m r : ℕ} (g 
     put = then (g .put) (q .put);
   }
 
-pub going-done : (t a₀ : List ℕ) {a : List ℕ} {h : Head} {bs : List Segment} {xs : List PlacedFloatedBox} {c : Calculator} {i n k p : ℕ} → Going t a₀ a (stateOf (pageWith h bs xs) c) i n → length t ≤ i → length t ≤ 65536 → length bs ≡ 96 → p ≡ min k 95 → Ends t a₀ a k (record { end = n; count = h .count; band = getD bs p none })
+pub going-done : (t a₀ : List ℕ) {a : List ℕ} {h : Head} {bs : List Segment} {xs : List PlacedFloatedBox} {c : Calculator} {i n k p : ℕ} → Going t a₀ a (stateOf (pageWith h bs xs) c) i n → length t ≤ i → length t ≤ 65536 → length bs ≡ 96 → p ≡ min k 95 → Ends t a₀ a k (record { end = n; count = h .count; band = getD bs p none; depth = h .depth })
 unfolding pageOf
 going-done t a₀ {a} {h} {bs} {xs} {c} {i} {n} {k} {p} g o l w e =
     let s = stateOf (pageWith h bs xs) c in
+    let left-page : pageOf (pageAfter t) ≡ pageOf (s .page) = sym (g .ends) ∙ ap (λ (x : State). pageOf (x .page)) (ap (λ (x : List ℕ). runs (g .fuel) x s) (drop-of-length-le t o) ∙ runs-none (g .fuel) s) in
     let f : linesOf t ≡ g .done = g .whole ∙ ap (λ (x : List ℕ). g .done ++ run (g .fuel) i x s) (drop-of-length-le t o) ∙ ap (λ (x : List ℕ). g .done ++ x) (run-none (g .fuel) i s) ∙ append-nil (g .done) in
     record {
       answered = record {
         few = let x = g .few in let y = g .inside in omega arith;
         put = subst⁻¹ (λ (x : List ℕ). Put a₀ 0 x a n) f (g .put);
       };
-      bands = bs;
-      long = w;
-      live = ap (λ (q : Page). q .bands) (sym (g .ends) ∙ ap (λ (x : State). pageOf (x .page)) (ap (λ (x : List ℕ). runs (g .fuel) x s) (drop-of-length-le t o) ∙ runs-none (g .fuel) s));
-      picked = ap (λ (x : ℕ). getD bs x none) e;
+      left = record {
+        bands = bs;
+        long = w;
+        live = ap (λ (q : Page). q .bands) left-page;
+        picked = ap (λ (x : ℕ). getD bs x none) e;
+        depth = sym (ap (λ (q : Page). q .depth) left-page);
+      };
     }

@@ -16,7 +16,7 @@ use Rattle.float.specs.declared.Segment.{Segment}
 use Rattle.float.specs.declared.refuse.Check.{Check}
 use Rattle.float.specs.Bands.{none}
 use Rattle.float.specs.Head.{pageWith}
-use Rattle.float.specs.Page.{pageOf}
+use Rattle.float.specs.Page.{Page, pageOf}
 use Rattle.float.specs.Place.{Call, placeOf}
 use Rattle.float.specs.declared.hold.Admission.{Admission}
 use Rattle.float.specs.declared.ask.Quest.{Quest}
@@ -66,7 +66,7 @@ pub record Leaves (t : Told State) (s : State) (l : List ℕ) (i : ℕ) (m : Lis
 
 -- the head of a fresh page
 abbrev pub freshHead : Head
-freshHead = record { width = zero+; count = 0; «box_count» = 0; «left_bottom» = Bottom.None; «right_bottom» = Bottom.None; ceiling = Bottom.None; «left_first» = 0; «right_first» = 0 }
+freshHead = record { width = zero+; count = 0; «box_count» = 0; «left_bottom» = Bottom.None; «right_bottom» = Bottom.None; ceiling = Bottom.None; depth = Bottom.None; «left_first» = 0; «right_first» = 0 }
 
 -- what was read is a placement that refusals 1, 2, 3 and 5 let pass
 pub record Places (h : Head) (r : Read) (a : Admission) : Type 0 where
@@ -137,13 +137,18 @@ pub record Answered (t a b : List ℕ) (r : ℕ) : Type 0 where
   pub few : r ≤ 11 * min (length t) 65536
   pub put : Put a 0 (linesOf t) b r
 
--- the same, and what the run left: r has the end of the lines, the number of bands, and what stands at the place k of their array, or at the last
-pub record Ends (t a b : List ℕ) (k : ℕ) (r : Ended) : Type 0 where
-  pub answered : Answered t a b (r .end)
+-- the page p was left: r has the number of its bands, what stands at the place k of their array, or at the last, and its depth
+pub record Left (p : Page) (k : ℕ) (r : Ended) : Type 0 where
   pub bands : List Segment
   pub long : length bands ≡ 96
-  pub live : pageOf (pageAfter t) .bands ≡ take (r .count) bands
+  pub live : p .bands ≡ take (r .count) bands
   pub picked : r .band ≡ getD bands (min k 95) none
+  pub depth : r .depth ≡ p .depth
+
+-- both, of one run: r has the end of the lines
+pub record Ends (t a b : List ℕ) (k : ℕ) (r : Ended) : Type 0 where
+  pub answered : Answered t a b (r .end)
+  pub left : Left (pageOf (pageAfter t)) k r
 
 -- the room a takes the lines of the tape t: they are known to fit, or there are eleven bytes for each byte of the tape
 abbrev pub Roomy : List ℕ → List ℕ → Type 0

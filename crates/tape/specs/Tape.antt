@@ -3,11 +3,12 @@ use Prim.Native.Nat.{ℕ, zero, suc, _+_}
 use mathlib.Core.Bool.{true, false, cond}
 use mathlib.Core.List.{List, [], _∷_, _++_}
 use lib.Dec.{leb}
-use lib.Ieee.{Float}
+use lib.Ieee.{Float, binary32, toBits}
 use lib.IntN.{ℤ, pos, negℤ}
 use lib.ListN.{length, drop}
 use Rattle.float.specs.declared.Added.{Added}
 use Rattle.float.specs.declared.BandNumber.{BandNumber}
+use Rattle.float.specs.declared.Bottom.{Bottom}
 use Rattle.float.specs.declared.BoxNumber.{BoxNumber}
 use Rattle.float.specs.declared.CalculatorAnswer.{CalculatorAnswer}
 use Rattle.float.specs.declared.FloatContext.{FloatContext}
@@ -19,7 +20,7 @@ use Rattle.float.specs.declared.refuse.Check.{Check}
 use Rattle.float.specs.Refuse.{numberOf}
 use Rattle.float.specs.Page.{pageOf, front, freshContext}
 use Rattle.float.specs.Place.{placeOf, widthOf}
-use Rattle.float.specs.Slot.{innermost, content, bfc}
+use Rattle.float.specs.Slot.{depthOf, innermost, content, bfc}
 use Rattle.float.specs.Calculator.{calculatorOf, addCheck, addOf, resultOf}
 use Rattle.tape.specs.declared.record.Mode.{Mode}
 use Rattle.tape.specs.declared.record.Read.{Read}
@@ -115,15 +116,28 @@ runs (suc f) (k ∷ body) s = elim (readOf k body) [ Read.Whole r ↦ runs f (dr
 unfoldable pub pageAfter : List ℕ → FloatContext
 pageAfter t = elim (leb (length t) 65536) [ true ↦ runs (length t) t freshState .page | false ↦ freshContext ]
 
--- an answer about a box, returned to C (1/14): its number, -100 for none, or a refusal's number below zero
+-- what is returned to C for none
+abbrev pub noneReturned : ℤ
+noneReturned = negℤ (pos 100)
+
+-- an answer about a box, returned to C (1/14): its number, none, or a refusal's number below zero
 abbrev pub returnedBox : Innermost → ℤ
 returnedBox (Innermost.Answer (BoxNumber.At k)) = pos k
-returnedBox (Innermost.Answer BoxNumber.None) = negℤ (pos 100)
+returnedBox (Innermost.Answer BoxNumber.None) = noneReturned
 returnedBox (Innermost.Refused n) = negℤ (pos (numberOf n))
 
 -- which box stands innermost in a band on a side of that page
 unfoldable pub innermostAfter : List ℕ → (band side : ℕ) → ℤ
 innermostAfter t i s = returnedBox (innermost (pageOf (pageAfter t)) (BandNumber.At i) s)
+
+-- a height that is kept, returned to C (3/14): its 32 bits, or none
+abbrev pub returnedHeight : Bottom → ℤ
+returnedHeight (Bottom.At y) = pos (toBits binary32 y)
+returnedHeight Bottom.None = noneReturned
+
+-- how deep that page is
+unfoldable pub depthAfter : List ℕ → ℤ
+depthAfter t = returnedHeight (depthOf (pageOf (pageAfter t)))
 
 -- the lines ls and the room a: what is returned, and what then stands in the room; 13, and nothing is written, where it is shorter than they are
 unfoldable pub returned : List ℕ → List ℕ → ℤ

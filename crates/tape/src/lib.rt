@@ -1,13 +1,14 @@
 // The tape of calls: a tape's records are read, run on a page and a calculator, and each prints its line.
+mod after;
 mod bytes;
 mod line;
 mod record;
 mod run;
 mod step;
-mod touch;
 
+pub use crate::after::depth;
+pub use crate::after::innermost;
 use crate::run::lines;
-pub use crate::touch::innermost;
 ghost use mathlib.Core.Path.{_≡_};
 ghost use Rattle.tape.specs.Put.{Roomy};
 ghost use Rattle.tape.specs.Tape.{linesOf, returned, filled};

@@ -13,6 +13,7 @@ use crate::step::no_band;
 use crate::step::no_box;
 use crate::step::placing;
 use crate::step::rest_of;
+use float::Bottom;
 use float::Head;
 use float::Refusal;
 use float::Segment;
@@ -96,11 +97,12 @@ fn last_of(n: usize) -> usize
     if n == 0 { 0 } else { n - 1 }
 }
 
-// What a run leaves: where its lines end, how many bands the page has, and the band at the place that was asked for.
+// What a run leaves: where its lines end, how many bands the page has, the band at the place that was asked for, and how deep the page is.
 pub struct Ended {
     pub end: usize,
     pub count: usize,
     pub band: Segment,
+    pub depth: Bottom,
 }
 
 pub fn records(tape: &[u8], answers: &mut [u8], pick: usize) -> Ended
@@ -200,10 +202,12 @@ pub fn records(tape: &[u8], answers: &mut [u8], pick: usize) -> Ended
         at = t.next;
     }
     let picked = bands[placed(pick)];
+    let depth = head.depth;
     Ended {
         end: to,
         count: head.count,
         band: picked,
+        depth: depth,
     }
 }
 

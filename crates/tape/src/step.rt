@@ -389,6 +389,7 @@ pub fn fresh_head() -> Head
         left_bottom: Bottom::None,
         right_bottom: Bottom::None,
         ceiling: Bottom::None,
+        depth: Bottom::None,
         left_first: 0,
         right_first: 0,
     }

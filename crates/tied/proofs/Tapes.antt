@@ -8,6 +8,7 @@ use lib.Ieee.{Float, inf, binary32, add, sub, le}
 use lib.IntN.{pos}
 use lib.ListN.{length, getD}
 use Rattle.float.specs.declared.BandNumber.{BandNumber}
+use Rattle.float.specs.declared.Bottom.{Bottom}
 use Rattle.float.specs.declared.BoxNumber.{BoxNumber}
 use Rattle.float.specs.declared.FloatContext.{FloatContext}
 use Rattle.float.specs.declared.FloatDirection.{FloatDirection}
@@ -15,12 +16,12 @@ use Rattle.float.specs.declared.PlaceAnswer.{PlaceAnswer}
 use Rattle.float.specs.Refuse.{sideOf}
 use Rattle.float.specs.Bands.{sameSide, hasFloat, boxOn, lead, none}
 use Rattle.float.specs.Page.{pageOf}
-use Rattle.float.specs.Place.{Call, cleaned, placeOf}
-use Rattle.float.specs.Slot.{active, innermost, ContentCall, contentCleaned, content, BfcCall, bfcCleaned, bfc}
+use Rattle.float.specs.Place.{Call, cleaned, endOf, placeOf}
+use Rattle.float.specs.Slot.{depthOf, active, innermost, ContentCall, contentCleaned, content, BfcCall, bfcCleaned, bfc}
 use Rattle.tape.specs.Record.{placeRecord}
-use Rattle.tape.specs.Tape.{returnedBox, innermostAfter}
-use Rattle.demands.specs.Runs.{Each, Pairs, boxIn, run, pageIn, bandsIn, Stays, Handed, Whole64, NoSmaller, EdgeToEdge, sideIn, containingLead, containingTrail, sized, shareHeight, overlap, present, Names, farInset, Holds, StandsAt, F32, unclear, contentUnclear, bfcUnclear, Raises, Page64}
-use Rattle.demands.proofs.Promises.{bands-lie, boxes-kept, no-inset-smaller, two-bands-more, steps-at-most, rule-1, rule-5, number-with-mark, number-names, innermost-told, clear-placement, clear-content, clear-bfc, page-in-64ths, rule-7, no-overlap, none-further-in, unmarked-free}
+use Rattle.tape.specs.Tape.{returnedBox, innermostAfter, returnedHeight, depthAfter}
+use Rattle.demands.specs.Runs.{Each, Pairs, boxIn, run, pageIn, bandsIn, Stays, Handed, Whole64, NoSmaller, EdgeToEdge, sideIn, containingLead, containingTrail, bottom, high, sized, shareHeight, overlap, present, Names, farInset, Holds, StandsAt, AtOrAbove, Largest, F32, unclear, contentUnclear, bfcUnclear, Raises, Page64}
+use Rattle.demands.proofs.Promises.{bands-lie, boxes-kept, no-inset-smaller, two-bands-more, steps-at-most, rule-1, rule-5, number-with-mark, number-names, innermost-told, clear-placement, clear-content, clear-bfc, depth-largest, depth-alone, depth-never-falls, ends-above-depth, page-in-64ths, rule-7, no-overlap, none-further-in, unmarked-free, bands-reach}
 use Rattle.tied.specs.Acts.{recordsOf, RecordAt, callsAt, runAt, wholeRun, callsNext}
 use Rattle.tied.proofs.Handed.{tape-f32, next-f32}
 use Rattle.tied.proofs.Calls.{run-next, run-one, page-after-tape, returned-number}
@@ -80,6 +81,21 @@ pub tape-clear-bfc : (t : List ℕ) (n : ℕ) (c : BfcCall) → F32 (c .minY) �
     → bfc (pageIn (runAt t n)) c ≡ bfc (pageIn (runAt t n)) (bfcUnclear (pageIn (runAt t n)) (bfcCleaned c))
 tape-clear-bfc t n c = clear-bfc (callsAt t n) c (tape-f32 t n)
 
+-- the depth (3/14) is the largest bottom of what was accepted, and k records later, none of them a fresh page, no smaller; no band ends below it
+pub tape-depth-largest : (t : List ℕ) (n : ℕ) → Largest (runAt t n .accepted) (depthOf (pageIn (runAt t n)))
+tape-depth-largest t n = depth-largest (callsAt t n) (tape-f32 t n)
+
+pub tape-depth-never-falls : (t : List ℕ) (n k : ℕ) → Each Stays (callsNext t n k) → (x : Float) → depthOf (pageIn (runAt t n)) ≡ Bottom.At x → AtOrAbove x (depthOf (pageIn (runAt t (n + k))))
+tape-depth-never-falls t n k h = rw (run-next t n k) (depth-never-falls (callsAt t n) (callsNext t n k) (tape-f32 t n) (next-f32 t n k) h)
+
+pub tape-ends-above-depth : (t : List ℕ) (n : ℕ) → Each (λ b. AtOrAbove (b .end) (depthOf (pageIn (runAt t n)))) (bandsIn (runAt t n))
+tape-ends-above-depth t n = ends-above-depth (callsAt t n) (tape-f32 t n)
+
+-- and what C is told of the page after the tape
+pub tape-depth : (t : List ℕ) → length t ≤ 65536 → (d : Bottom) → Largest (wholeRun t .accepted) d → depthAfter t ≡ returnedHeight d
+unfolding depthAfter
+tape-depth t h d l = ap (λ (p : FloatContext). returnedHeight (depthOf (pageOf p))) (page-after-tape t h) ∙ ap returnedHeight (sym (depth-alone (callsAt t (length (recordsOf t))) (tape-f32 t (length (recordsOf t))) d l))
+
 -- ---- if every number that they handed in was whole 64ths
 
 -- all numbers that the page then holds are whole 64ths
@@ -104,3 +120,7 @@ tape-none-further-in t n = none-further-in (callsAt t n) (tape-f32 t n)
 pub tape-unmarked-free : (t : List ℕ) (n : ℕ) → Handed Whole64 (callsAt t n) → (i : ℕ) → i < length (bandsIn (runAt t n)) → (s : FloatDirection) → hasFloat s (getD (bandsIn (runAt t n)) i none) ≡ false → (h : Float) → F32 h → Holds (getD (bandsIn (runAt t n)) i none) h
     → Each (λ a. sideIn a ≡ s → StandsAt a h → ⊥) (runAt t n .accepted)
 tape-unmarked-free t n = unmarked-free (callsAt t n) (tape-f32 t n)
+
+-- the bands reach down to the bottom of every box with a height
+pub tape-bands-reach : (t : List ℕ) (n : ℕ) → Handed Whole64 (callsAt t n) → Each (λ a. T (high a) → T (le (bottom a) (endOf (bandsIn (runAt t n))))) (runAt t n .accepted)
+tape-bands-reach t n = bands-reach (callsAt t n) (tape-f32 t n)

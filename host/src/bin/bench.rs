@@ -150,6 +150,8 @@ mod run {
         println!("| deepest stack over the stored tapes | {} |", grouped(deepest.unwrap_or(0)));
         let asked = answers::sample().iter().map(|(tape, _)| archive::innermost_stack(tape, 1, 0)).max();
         println!("| deepest stack of `bulameki_innermost` over them | {} |", grouped(asked.unwrap_or(0)));
+        let asked = answers::sample().iter().map(|(tape, _)| archive::depth_stack(tape)).max();
+        println!("| deepest stack of `bulameki_depth` over them | {} |", grouped(asked.unwrap_or(0)));
     }
 
     fn text(rows: &[Row]) {

@@ -90,7 +90,7 @@ mod run {
     }
 
     /// The archive's page: bands, boxes, and the fields beside them.
-    const PAGE: usize = 96 * 24 + 64 * 20 + 64;
+    const PAGE: usize = 96 * 24 + 64 * 20 + 72;
 
     fn pages() {
         println!("| a page of | archive, bytes | crate, bytes |");

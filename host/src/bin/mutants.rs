@@ -22,7 +22,7 @@ fn main() {
 #[cfg(all(has_taffy, has_panel))]
 mod tried {
     use host::account::Account;
-    use host::driver::other_box;
+    use host::driver::{other_box, other_depth};
     use host::random::Random;
     use host::tape::{bytes, Record};
     use host::{answers, archive, boundaries, judge, tapes};
@@ -80,11 +80,13 @@ mod tried {
 
     /// What a tape is that the archive answers otherwise.
     pub fn first_difference(tapes: &[Tried]) -> Option<usize> {
-        let (run, innermost) = (archive::panel().unwrap(), archive::innermost().unwrap());
+        let (run, innermost, depth) =
+            (archive::panel().unwrap(), archive::innermost().unwrap(), archive::depth().unwrap());
         tapes.iter().position(|tried| {
             let differs = |room: &usize| archive::difference(run, &tried.tape, &tried.lines, *room).is_some();
             let other_box = || other_box(innermost, &tried.tape, &tried.account, [tried.band]);
-            tried.rooms.iter().any(differs) || other_box().is_some()
+            let other_depth = || other_depth(depth, &tried.tape, &tried.account);
+            tried.rooms.iter().any(differs) || other_box().is_some() || other_depth().is_some()
         })
     }
 

@@ -175,8 +175,8 @@ element-copy-out-b c = let r = room (c .before .before .before .before .before) 
 shaped-requires : tie.Need-shaped-requires Inv-loop μ-loop Inv-loop2 μ-loop2
 shaped-requires c κs = search needs
 
-mul-t65 : tie.Need-mul-t65 Inv-loop μ-loop Inv-loop2 μ-loop2
-mul-t65 c = let r = room (c .before .before .before .before .before .before .before) .1 in omega (arith, c .before .before .before .before .before .loop2 .inv .0 .high)
+mul-t67 : tie.Need-mul-t67 Inv-loop μ-loop Inv-loop2 μ-loop2
+mul-t67 c = let r = room (c .before .before .before .before .before .before .before) .1 in omega (arith, c .before .before .before .before .before .loop2 .inv .0 .high)
 
 element-set-from-self : tie.Need-element-set-from-self Inv-loop μ-loop Inv-loop2 μ-loop2
 element-set-from-self c = let r = room (c .before .before .before .before .before .before .before) .1 in omega (arith, c .before .before .before .before .before .loop2 .inv .0 .high, c .before .before .before .if3 .taken)
@@ -242,7 +242,7 @@ place-floated-box-spec =
     mul-b
     element-copy-out-b
     shaped-requires
-    mul-t65
+    mul-t67
     element-set-from-self
     loop2-less
     loop2-again

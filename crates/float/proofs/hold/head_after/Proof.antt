@@ -13,11 +13,14 @@ bottom-after-requires-2 c κs = search needs
 lower-requires : tie.Need-lower-requires
 lower-requires c κs = search needs
 
+lower-requires-2 : tie.Need-lower-requires-2
+lower-requires-2 c κs = search needs
+
 smaller-n-requires : tie.Need-smaller-n-requires
 smaller-n-requires c κs = search needs
 
-add-t15 : tie.Need-add-t15
-add-t15 c = search needs
+add-t17 : tie.Need-add-t17
+add-t17 c = search needs
 
 number-after-requires : tie.Need-number-after-requires
 number-after-requires c κs = search needs
@@ -27,11 +30,12 @@ number-after-requires-2 c κs = search needs
 
 returns : tie.Need-returns
 returns c =
-    let s = c .before .before .before .before .before .before .before .before .args in
+    let s = c .before .before .before .before .before .before .before .before .before .args in
     head-code (s .head) (s .a) (s .p)
-    (c .before .before .before .before .before .bottom-after .ensures)
-    (c .before .before .before .before .bottom-after2 .ensures)
-    (c .before .before .before .lower .ensures)
+    (c .before .before .before .before .before .before .bottom-after .ensures)
+    (c .before .before .before .before .before .bottom-after2 .ensures)
+    (c .before .before .before .before .lower .ensures)
+    (c .before .before .before .lower2 .ensures)
     (c .before .before .smaller-n .ensures)
     (c .before .number-after .ensures)
     (c .number-after2 .ensures)
@@ -43,8 +47,9 @@ head-after-spec =
     bottom-after-requires
     bottom-after-requires-2
     lower-requires
+    lower-requires-2
     smaller-n-requires
-    add-t15
+    add-t17
     number-after-requires
     number-after-requires-2
     returns)

@@ -1,8 +1,8 @@
--- `tape::touch::returned_box` meets its contract, by the answer.
+-- `tape::after::returned_box` meets its contract, by the answer.
 use Rattle.tape.proofs.AfterTape.{box-told, none-told, number-fits, below-fits, refusal-told}
 use borrow.Author.Needs.{needs}
-use Rattle.tape.proofs.touch.returned_box.Statement.{statement}
-use Rattle.tape.proofs.touch.returned_box.Tie as tie
+use Rattle.tape.proofs.after.returned_box.Statement.{statement}
+use Rattle.tape.proofs.after.returned_box.Tie as tie
 
 enum-known-a : tie.Need-enum-known-a
 enum-known-a c = search needs

@@ -1,0 +1,23 @@
+-- `tape::after::depth` meets its contract: the run leaves the depth of the page after the tape.
+use mathlib.Core.Path.{_∙_}
+use mir.Syntax.{w64}
+use mir.ValLaws.{toZ-ofZ}
+use Rattle.tape.proofs.AfterTape.{depth-after}
+use borrow.Author.Needs.{needs}
+use Rattle.tape.proofs.after.depth.Statement.{statement}
+use Rattle.tape.proofs.after.depth.Tie as tie
+
+left-by-requires : tie.Need-left-by-requires
+left-by-requires c κs = search needs
+
+returned-height-requires : tie.Need-returned-height-requires
+returned-height-requires c κs = search needs
+
+returns : tie.Need-returns
+returns c =
+    toZ-ofZ w64 (c .returned-height .result) (record { sfits = c .returned-height .ok })
+    ∙ c .returned-height .ensures
+    ∙ depth-after (c .before .before .before .args .tape .now) (c .before .left-by .ensures)
+
+pub depth-spec : {M : Type 1} → statement M
+depth-spec = tie.close (tie.spec left-by-requires returned-height-requires returns)
