@@ -56,10 +56,6 @@ impl FloatContext {
             .map(|s| Band { start: s.y.start, end: s.y.end, insets: s.insets, marks: s.has_float })
             .collect()
     }
-
-    pub fn width(&self) -> f32 {
-        self.available_width
-    }
 }
 
 impl FloatIntrinsicWidthCalculator {

@@ -4,11 +4,20 @@
 use std::path::{Path, PathBuf};
 use std::{env, fs};
 
-/// Handed to both copies: the page's band count.
+/// Handed to both copies: the page's width, its band count, and a band's heights and insets.
 const READER: &str = "
 impl FloatContext {
+    pub fn width(&self) -> f32 {
+        self.available_width
+    }
+
     pub fn band_count(&self) -> usize {
         self.segments.len()
+    }
+
+    #[inline]
+    pub fn band(&self, number: usize) -> Option<(&Range<f32>, [f32; 2])> {
+        self.segments.get(number).map(|band| (&band.y, band.insets))
     }
 }
 ";

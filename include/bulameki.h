@@ -1,26 +1,28 @@
 /* The C face of Bulameki: bulameki_run_tape runs a tape of calls that place floated boxes on a page, and writes one line
-   a call; bulameki_innermost tells which box stands innermost in a band of the page after a tape, and bulameki_depth how
-   deep that page is.
+   a call; bulameki_innermost tells which box stands innermost in a band of the page after a tape, bulameki_depth how
+   deep that page is, and bulameki_set_words sets a text in lines around its boxes.
 
    x86-64 only, for C99 and C++. The archive, target/staticlib/libpanel.a, needs nothing at link time but memcpy and
    memset. Nothing is kept from one call to the next, and nothing but the answers is written: several threads may call at
    once, each with an answer room of its own.
 
    WHAT A CALL NEEDS, of each function.
-     - Stack: at most BULAMEKI_STACK bytes, whatever the tape. Up to 128 bytes below the stack pointer are in use
-       without being reserved (the red zone of the x86-64 ABI), so an interrupt handler may not push onto this stack,
-       unless it first steps over them. No heap, no static memory.
-     - Time: it grows with the tape's length and is bounded. The worst tape found for version 0.1.0, 65,536 bytes of
-       kind 0, took it 14 ms on a server of two cores, and 27 ms in a room that was just enough, where a tape is run
-       twice. Since version 0.2.0 it takes a ninth of the instructions for a fresh page and its width; not timed since.
+     - Stack: at most BULAMEKI_STACK bytes, for bulameki_set_words BULAMEKI_WORDS_STACK, whatever the tape and the text.
+       Not counted is what a dynamic linker takes where it looks for memcpy and memset at their first call only. Up to
+       128 bytes below the stack pointer are in use without being reserved (the red zone of the x86-64 ABI), so an
+       interrupt handler may not push onto this stack, unless it first steps over them. No heap, no static memory.
+     - Time: it grows with the tape's length, and the text's, and is bounded. The worst tape found for version 0.1.0,
+       65,536 bytes of kind 0, took it 14 ms on a server of two cores, and 27 ms in a room that was just enough, where a
+       tape is run twice. Since version 0.2.0 it takes a ninth of the instructions for a fresh page and its width; not
+       timed since.
      - A floating-point environment as C and the ABI start one (MXCSR 0x1F80): rounding to nearest, subnormals neither
        flushed to zero nor read as zero, all exceptions masked. In another one answers are wrong, pictures may lie over
        each other, and an unmasked exception ends the program at the first NaN. Linking with -ffast-math is enough to
        change it. Call bulameki_environment() at start-up, in each thread that calls.
-     - A tape that holds still. Copy one that can change meanwhile (worn flash, DMA, another thread) to RAM first. A tape
-       of which a byte changes during the call gives any lines, or -13 with lines left in the room; nothing is written
-       past the room even then. In a room of BULAMEKI_ROOM the tape is run once, in a shorter one twice.
-       bulameki_innermost and bulameki_depth run it once, and give any answer where a byte changes.
+     - A tape and a text that hold still. Copy one that can change meanwhile (worn flash, DMA, another thread) to RAM
+       first. One of which a byte changes during the call gives any lines, or -13 with lines left in the room; nothing is
+       written past the room even then. In a room of BULAMEKI_ROOM bulameki_run_tape runs the tape once, in a shorter
+       one twice. The other functions run it once, and give any answer where a byte changes.
 
    THE TAPE. A record is one byte of kind, then a body of fixed length. f32 and u16 are little-endian, codes are bytes.
 
@@ -74,10 +76,12 @@ extern "C" {
 #endif
 
 /* This header and the archive are of one version; CHANGELOG.md says what each brought. */
-#define BULAMEKI_VERSION "0.5.0"
+#define BULAMEKI_VERSION "0.6.0"
 
-/* The deepest stack of a call in bytes, its return address counted: measured, as docs/SPEED.md says. */
-#define BULAMEKI_STACK 5312
+/* The deepest stack of a call in bytes, its return address counted, and that of bulameki_set_words: measured, as
+   docs/SPEED.md says. */
+#define BULAMEKI_STACK 5328
+#define BULAMEKI_WORDS_STACK 21256
 
 enum bulameki_kind {
     BULAMEKI_NEW = 0,
@@ -120,17 +124,22 @@ enum bulameki_refusal {
     BULAMEKI_WIDTH_FIXED = 4,
     /* a box comes when 64 boxes stand, both sides together */
     BULAMEKI_BOXES_FULL = 5,
-    /* y plus height, or placed inset plus width, would pass 131,072; for the calculator, a side's sum or both sums */
+    /* y plus height, or placed inset plus width, would pass 131,072; for the calculator, a side's sum or both sums; for
+       a text, a line's bottom */
     BULAMEKI_TOO_FAR = 6,
     /* the placement would need more than 96 bands */
     BULAMEKI_BANDS_FULL = 7,
     /* the tape adds to, or asks, a calculator not yet started */
     BULAMEKI_NO_CALCULATOR = 8,
+    /* a text has more than 512 words */
+    BULAMEKI_TOO_MANY_WORDS = 9,
+    /* a text's line height is zero */
+    BULAMEKI_NO_LINE_HEIGHT = 10,
     /* the room is shorter than the lines: no line says so, the call returns BULAMEKI_RETURNS_NO_ROOM */
     BULAMEKI_NO_ROOM = 13
 };
 
-/* What bulameki_run_tape returns in place of a length when the room is too short. */
+/* What bulameki_run_tape and bulameki_set_words return in place of a length when the room is too short. */
 #define BULAMEKI_RETURNS_NO_ROOM (-(int64_t)BULAMEKI_NO_ROOM)
 
 /* Room that is surely enough for the lines of a tape of this many bytes; a constant where the length is one. In such a
@@ -187,6 +196,82 @@ int64_t bulameki_innermost(const uint8_t *tape, size_t tape_len, size_t band, ui
 
        bulameki_depth(tape, sizeof tape)                           // 0x41F00000, the bits of 30 */
 int64_t bulameki_depth(const uint8_t *tape, size_t tape_len);
+
+/* A TEXT is a row of words, of which only the widths count. Little-endian, as a tape:
+
+     u16 count                   how many words it has
+     f32 width, count times      of each word, in order
+     f32 gap                     between two words of a line
+     f32 line height
+     f32 min_y                   the first line is no higher
+     f32 left inset              of the text's container, measured from the page's edges
+     f32 right inset
+
+   Widths, gap, line height and insets lie in 0 to 65,536, min_y in -65,536 to 65,536. A minus zero is read as plus zero.
+
+   ITS LINES stand below each other, the first from min_y on. A line touches the bands whose end is greater than its top
+   and whose start is less than its bottom, which is its top plus the line height. Its left edge is the largest of the
+   container's left inset and the left insets of all bands that it touches; the right alike; its room is the page width
+   less both. It takes words in order while their widths and the gaps between them, summed from the left, are at most the
+   room; every sum is rounded to an f32. If not even the first word fits, the line moves to the next band start greater
+   than its top, or, where there is none, to the last end; but a line that touches no band takes its first word even
+   where it is wider than the room. The next line begins at this one's bottom. On a page and with a text in whole 64ths
+   no line lies over a box of positive width and height.
+
+   Each line that is set gives a line of answer, from the top down, and nothing else is written:
+
+     line                 longest    meaning
+     L x y first count         28    its left edge and its top, the number of its first word, counted from 0, and how
+                                     many words it has: 1 or more. Every word stands on exactly one line, in order; a
+                                     word begins at x plus the widths and gaps before it on its line
+
+   Or one line stands alone, and no line is set; of several the first of this list:
+
+     L                          2    the tape is longer than 65,536 bytes
+     T offset                   8    the tape stops at offset, as its own last line says
+     T 0                        4    the text is not exactly as long as its count says
+     R 2                        4    a number of the text is NaN or infinite, be it a word's past the 512th
+     R 3                        4    one is outside its limits, likewise
+     R 9                        4    the text has more than 512 words
+     R 10                       5    the line height is zero
+     R 6                        4    a line's bottom would pass 131,072
+
+   A refused record of the tape changes nothing on the page and stops nothing. A text of no words gives no line. */
+
+/* A text of more words is refused. */
+#define BULAMEKI_MOST_WORDS 512
+
+/* How long a text of so many words is; a constant where the count is one. */
+#define BULAMEKI_TEXT_LEN(count) (22 + 4 * (size_t)(count))
+
+/* Room that is surely enough for the lines of a text of this many bytes; a constant where the length is one. A line of
+   at most 28 bytes takes a word or more, of 4 bytes each; there are at most 512 words; and a line that stands alone has
+   at most 8 bytes. */
+#define BULAMEKI_WORDS_ROOM(text_len) \
+    ((size_t)(text_len) < BULAMEKI_TEXT_LEN(1)                     ? (size_t)8 \
+     : (size_t)(text_len) < BULAMEKI_TEXT_LEN(BULAMEKI_MOST_WORDS) ? 7 * ((size_t)(text_len) - BULAMEKI_TEXT_LEN(0)) \
+                                                                   : (size_t)28 * BULAMEKI_MOST_WORDS)
+
+/* Sets the text_len bytes at text around the boxes of the page after the tape_len bytes at tape, and writes its lines
+   at answers, which has room bytes. Returns how many bytes were written; bytes past them are left as they were, and no
+   zero byte ends them. If the lines are longer than room, returns -13 and writes nothing. All bytes are a tape, and all
+   are a text: there is no other failure. A pointer may be null where its length is 0; the answers overlap neither tape
+   nor text. On the tape above, three words beside the left box:
+
+       static const uint8_t text[] = {
+           3, 0,                                              // three words,
+           0x00, 0x00, 0x20, 0x42, 0x00, 0x00, 0x48, 0x42,    // 40 and 50 wide,
+           0x00, 0x00, 0xF0, 0x41,                            // and 30,
+           0x00, 0x00, 0x80, 0x40, 0x00, 0x00, 0x40, 0x41,    // gap 4, line height 12,
+           0, 0, 0, 0, 0, 0, 0, 0, 0, 0, 0, 0                 // min_y 0, insets 0
+       };
+       uint8_t set[BULAMEKI_WORDS_ROOM(sizeof text)];
+       int64_t m = bulameki_set_words(tape, sizeof tape, text, sizeof text, set, sizeof set);
+
+   gives m = 48 and the two lines "L 41200000 00000000 0 1" and "L 41200000 41400000 1 2": the words begin at x 10, right
+   of the box; the second would end at 104, past the page's 100, and so begins a line of its own, at y 12. */
+int64_t bulameki_set_words(const uint8_t *tape, size_t tape_len, const uint8_t *text, size_t text_len, uint8_t *answers,
+                           size_t room);
 
 /* A float of these bits, and the bits of a float. */
 static inline float bulameki_float(uint32_t bits)

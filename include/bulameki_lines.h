@@ -1,4 +1,4 @@
-/* Reads an answer line of bulameki_run_tape into its numbers: no heap, and safe on any bytes. */
+/* Reads an answer line of bulameki_run_tape or bulameki_set_words into its numbers: no heap, and safe on any bytes. */
 #ifndef BULAMEKI_LINES_H
 #define BULAMEKI_LINES_H
 
@@ -16,7 +16,9 @@ struct bulameki_line {
     char letter;     /* N, W, P, C, B, S, A, I, R, T or L, as bulameki.h lists them */
     int32_t band;    /* of C and B: a band's number, or BULAMEKI_NO_BAND */
     uint32_t number; /* of P the steps, of R the refusal, of T the offset */
-    float x, y;      /* of P, C and B */
+    uint32_t first;  /* of L, where it is a line of words: the number of its first word, counted from 0 */
+    uint32_t count;  /* of L: how many words the line has; 0 where L stands for a tape that is too long */
+    float x, y;      /* of P, C, B and a line of words */
     float width;     /* of C and I; of B what the border box may measure */
     float stretch;   /* of B: what auto width gives */
 };
@@ -81,7 +83,16 @@ static inline size_t bulameki_read_line(const uint8_t *lines, size_t len, struct
     case 'W':
     case 'S':
     case 'A':
+        break;
     case 'L':
+        if (len > 1 && lines[1] == '\n')
+            break;
+        at = bulameki_take_float(lines, len, at, &line->x);
+        at = bulameki_take_float(lines, len, at, &line->y);
+        at = bulameki_take_whole(lines, len, at, &line->first);
+        at = bulameki_take_whole(lines, len, at, &line->count);
+        if (line->count == 0)
+            return 0;
         break;
     case 'R':
     case 'T':

@@ -1,5 +1,6 @@
 #!/usr/bin/env python3
-"""Tests of tape.py: bytes to text and back for any bytes, every kind of record and of bad line, numbers, answers."""
+"""Tests of tape.py: bytes to text and back for any bytes, every kind of record and of bad line, numbers, answers.
+The same for words, and the drawing of draw.py."""
 import math
 import random
 import struct
@@ -11,6 +12,7 @@ from fractions import Fraction
 from pathlib import Path
 
 sys.dont_write_bytecode = True
+import draw
 import tape
 
 HERE = Path(__file__).resolve().parent
@@ -85,10 +87,44 @@ BAD = (
     ('bytes 0G', 'pairs of hex'),
 )
 
+# Three words, written by hand, their bytes, and their lines beside the box of the first tape, the page being 40 wide.
+THREE = 'words 10 12.5 8 gap 4 line 12 at 0 insets 0 0'
+THREE_BYTES = bytes.fromhex('0300 00002041 00004841 00000041  00008040 00004041 00000000 00000000 00000000')
+THREE_LINES = 'L 41200000 00000000 0 2\nL 41200000 41400000 2 1\n'
 
-def command(*arguments, given=b''):
-    """Runs tape.py."""
-    return subprocess.run([sys.executable, HERE / 'tape.py', *map(str, arguments)], input=given, capture_output=True,
+# Words in every form that their text has, and their bytes.
+WORDS = (
+    (THREE, THREE_BYTES.hex()),
+    ('line 12 words 10 12.5 8 gap 4', THREE_BYTES.hex()),
+    ('# a text\n\nwords 10 # one\nwords 12.5 8\n  gap 4\nline 12\n', THREE_BYTES.hex()),
+    ('words 10 gap 4 words 12.5 8 line 12', THREE_BYTES.hex()),
+    ('line 12', '0000 00000000 00004041 00000000 00000000 00000000'),
+    ('words line 0', '0000 00000000 00000000 00000000 00000000 00000000'),
+    ('words -0 nan 0xFF800001 line inf at -1 insets 2 3',
+     '0300 00000080 0000C07F 010080FF  00000000 0000807F 000080BF 00000040 00004040'),
+    ('bytes 03 00 ff', '03 00 FF'),
+    ('bytes 03\n# cut\nbytes 00', '03 00'),
+)
+
+# A bad text of words: in which line, and what the message must say.
+BAD_WORDS = (
+    ('', 1, 'line height is missing'), ('words 1 2', 1, 'line height is missing'),
+    ('words 1\ngap 4\n', 3, 'line height is missing'), ('line', 1, 'line height is missing'),
+    ('line 12 words ten', 1, "'ten' does not belong"), ('line 12 words 1e39', 1, 'beyond the largest f32'),
+    ('line 12\nwords 1 2 3, 4', 2, "'3,' does not belong"), ('line 12 line 12', 1, "'line' is a second line"),
+    ('line 12\ngap 1\ngap 1', 3, "'gap' is a second gap"), ('line 12 insets 1', 1, 'right inset is missing'),
+    ('line 12 at', 1, 'min_y is missing'), ('line 12 gap four', 1, "'four' is not a number"),
+    ('line 12 12', 1, "'12' does not belong"), ('12.5 8 line 12', 1, "'12.5' does not belong"),
+    ('left 10x30', 1, "'left' does not belong"), ('line 12 margins 1 2', 1, "'margins' does not belong"),
+    ('line 12 clear left', 1, "'clear' does not belong"), ('bytes', 1, 'pairs of hex'),
+    ('bytes 1', 1, 'pairs of hex'), ('bytes 03 00\nline 12', 2, 'do not stand beside parts'),
+    ('words\nbytes 03 00\nline 12', 2, 'do not stand beside parts'), ('line 12 bytes 03', 1, "'bytes' does not belong"),
+)
+
+
+def command(*arguments, given=b'', tool='tape.py'):
+    """Runs tape.py, or another tool."""
+    return subprocess.run([sys.executable, HERE / tool, *map(str, arguments)], input=given, capture_output=True,
                           timeout=60)
 
 
@@ -299,6 +335,107 @@ class Answers(unittest.TestCase):
         self.refused(bytes(65537), 'N\n', 1)
 
 
+class Words(unittest.TestCase):
+    def refused(self, lines, row, what='', data=THREE_BYTES):
+        with self.assertRaises(tape.BadLines) as caught:
+            tape.show_words(data, lines)
+        (first, said), = caught.exception.args[0]
+        self.assertEqual(first, row, lines)
+        self.assertIn(what, said)
+
+    def test_every_form(self):
+        for source, data in WORDS:
+            with self.subTest(source):
+                made = tape.make_words(source)
+                self.assertEqual(made, bytes.fromhex(data))
+                self.assertEqual(tape.make_words(tape.text_words(made)), made)
+
+    def test_text_is_short_and_whole(self):
+        for source in ('words 10 12.5 8\ngap 4 line 12\n', 'line 12\n', 'words 0 -0\nline 0 at -0\n',
+                       'words 1\ngap 0.1 line 1e-45 at -5 insets 0 2\n', 'bytes 01 00\n',
+                       'words 1 2 3 4 5 6 7 8 9 10 11 12\nwords 13\nline 12\n'):
+            self.assertEqual(tape.text_words(tape.make_words(source)), source)
+
+    def test_random_bytes(self):
+        chance = random.Random(6)
+        for _ in range(300):
+            count = chance.randint(0, 30)
+            data = bytearray(struct.pack(f'<H{count + 5}I', count, *(random_bits(chance) for _ in range(count + 5))))
+            self.assertEqual(tape.make_words(tape.text_words(data)), data)
+            data[chance.randrange(len(data))] = chance.getrandbits(8)
+            del data[chance.randint(1, len(data)):]
+            self.assertEqual(tape.make_words(tape.text_words(data)), data)
+
+    def test_each_bad_text_is_named_with_its_line(self):
+        for source, row, what in BAD_WORDS:
+            with self.subTest(source), self.assertRaises(tape.BadLines) as caught:
+                tape.make_words(source)
+            self.assertEqual(caught.exception.args[0][0][0], row)
+            self.assertIn(what, caught.exception.args[0][0][1])
+
+    def test_as_many_words_as_the_count_can_say(self):
+        source = 'line 12\n' + 'words 1 2 3 4 5\n' * 13107
+        data = tape.make_words(source)
+        self.assertEqual((data[:2], len(data)), (b'\xFF\xFF', 262162))
+        with self.assertRaises(tape.BadLines) as caught:
+            tape.make_words(source + 'words 6')
+        self.assertEqual(caught.exception.args[0], [(13109, 'more than 65535 words')])
+
+    def test_lines(self):
+        self.assertEqual(tape.show_words(THREE_BYTES, THREE_LINES),
+                         '0  10 12.5  L  x 10, y 0, words 0 to 1\n'
+                         '2  8        L  x 10, y 12, word 2\n')
+        self.assertEqual(tape.show_words(tape.make_words('line 12'), ''), '')
+        many = tape.make_words('line 12 words ' + ' '.join(map(str, range(100, 140))))
+        self.assertEqual(tape.show_words(many, 'L 00000000 00000000 0 40\n'),
+                         f"0  {' '.join(map(str, range(100, 115)))} ..  L  x 0, y 0, words 0 to 39\n")
+
+    def test_a_line_that_stands_alone(self):
+        for line, what in (('R 2', 'refused, NaN or infinite'), ('R 3', 'refused, outside its limits'),
+                           ('R 9', 'refused, more than 512 words'), ('R 10', 'refused, line height zero'),
+                           ('R 6', 'refused, beyond 131,072'), ('T 44', 'the tape stopped at byte 44'),
+                           ('T 0', 'the tape stopped at byte 0'), ('L', 'the tape is over 65,536 bytes')):
+            self.assertEqual(tape.show_words(THREE_BYTES, line + '\n'), f'0  10 12.5 8  {line}  {what}\n')
+        self.assertEqual(tape.show_words(THREE_BYTES[:-1], 'T 0\n'),
+                         '0  bytes 03 00 00 00 ..  T 0  not as long as its count says\n')
+        self.assertEqual(tape.show_words(THREE_BYTES + b'\0', 'T 5\n'),
+                         '0  bytes 03 00 00 00 ..  T 5  the tape stopped at byte 5\n')
+
+    def test_wrong_lines_are_named(self):
+        first, second = THREE_LINES.splitlines(keepends=True)
+        for lines, row in ((first, 2), (second, 1), (first + first, 2), (first + second + second, 3), ('', 1),
+                           (first + 'L 41200000 41400000 2 2\n', 2), (first + 'L 41200000 41400000 2 0\n', 2),
+                           (first + 'R 6\n', 2), ('L\n' + first + second, 1), (first + 'L\n', 2), ('R 1\n', 1),
+                           ('R 13\n', 1), ('T\n', 1), ('P 41200000 00000000 0\n', 1), (first + second[:-1], 2),
+                           ('L 41200000 00000000 0\n', 1), ('L 4120000a 00000000 0 2\n', 1)):
+            self.refused(lines, row)
+        self.refused('R 9\n', 1, 'not as long as their count says', THREE_BYTES[:-1])
+        self.refused('', 1, 'not as long as their count says', b'')
+        # and a record of a tape is not refused by a number of words
+        for number in (9, 10):
+            with self.assertRaises(tape.BadLines):
+                tape.show(bytes([7]), f'R {number}\n')
+
+    def test_command(self):
+        with tempfile.TemporaryDirectory() as folder:
+            out, lines = Path(folder, 'three.words'), Path(folder, 'three.lines')
+            self.assertEqual(command('words', 'make', '-', out, given=THREE.encode()).returncode, 0)
+            self.assertEqual(out.read_bytes(), THREE_BYTES)
+            self.assertEqual(command('words', 'text', out).stdout, b'words 10 12.5 8\ngap 4 line 12\n')
+            lines.write_text(THREE_LINES)
+            shown = tape.show_words(THREE_BYTES, THREE_LINES).encode()
+            self.assertEqual(command('words', 'show', out, lines).stdout, shown)
+            self.assertEqual(command('words', 'show', out, given=THREE_LINES.encode()).stdout, shown)
+            done = command('words', 'make', '-', out, given=b'line 12\nword 1\n')
+            self.assertEqual((done.returncode, done.stderr), (1, b"-:2: 'word' does not belong here\n"))
+            self.assertEqual(out.read_bytes(), THREE_BYTES)
+            done = command('words', 'show', out, given=b'R 1\n')
+            self.assertEqual((done.returncode, done.stdout), (1, b''))
+            self.assertTrue(done.stderr.startswith(b"-:1: 'R 1' is no line"))
+            done = command('words', 'make', '-', '-', given=b'line 12\n' + b'words 1\n' * 17000)
+            self.assertEqual((done.returncode, len(done.stdout), done.stderr), (0, 68022, b''))
+
+
 class Command(unittest.TestCase):
     def test_through_pipes(self):
         self.assertEqual(command('make', '-', '-', given=b'width 100\nleft 10x30\ncontent\nbytes 09').stdout, FIRST)
@@ -355,21 +492,83 @@ class Command(unittest.TestCase):
             self.assertEqual(one.read_bytes(), FIRST)
 
     def test_usage(self):
-        for arguments in ((), ('mend', 'a'), ('make', 'a'), ('text', 'a', 'b'), ('show', '-', '-'), ('show', '-')):
+        wrong = ((), ('mend', 'a'), ('make', 'a'), ('text', 'a', 'b'), ('show', '-', '-'), ('show', '-'))
+        for arguments in (*wrong, *(('words', *arguments) for arguments in (*wrong, ('words', 'text', 'a')))):
             done = command(*arguments)
-            self.assertEqual((done.returncode, done.stdout), (2, b''))
+            self.assertEqual((done.returncode, done.stdout), (2, b''), arguments)
+
+
+class Drawing(unittest.TestCase):
+    def test_page(self):
+        data = tape.make('width 9\nleft 1x2\nnew\nwidth 100\nright 10x30 at -8\nleft 70000x1\nright 5.5x2\ncontent\n'
+                         'bytes 09')
+        lines = ('W\nP 00000000 00000000 0\nN\nW\nP 42B40000 C1000000 0\nR 3\nP 42A90000 00000000 0\n'
+                 'C 1 00000000 00000000 42A90000\nT 119\n')
+        width, boxes = draw.page(data, lines)
+        self.assertEqual((width, boxes), (100, [(90, -8, 10, 30), (84.5, 0, 5.5, 2)]))
+        said = draw.svg(width, boxes, []).splitlines()
+        self.assertEqual(said[0], '<svg xmlns="http://www.w3.org/2000/svg" viewBox="-4 -12 108 38">')
+        self.assertTrue(said[2].startswith('<rect x="90" y="-8" width="10" height="30" '))
+        self.assertEqual(len(said), 5)
+
+    def test_words(self):
+        self.assertEqual(draw.words(THREE_BYTES, THREE_LINES), [(10, 0, 10, 12), (24, 0, 12.5, 12), (10, 12, 8, 12)])
+        for line in ('L\n', 'T 5\n', 'R 10\n'):
+            self.assertEqual(draw.words(THREE_BYTES, line), [])
+        self.assertEqual(draw.words(b'', 'T 0\n'), [])
+
+    def test_command(self):
+        self.assertEqual(command('a', tool='draw.py').returncode, 2)
+        with tempfile.TemporaryDirectory() as folder:
+            files = [Path(folder, name) for name in ('a.tape', 'a.lines', 'a.words', 'a.words.lines')]
+            for file, data in zip(files, (FIRST, FIRST_LINES.encode(), THREE_BYTES, THREE_LINES.encode())):
+                file.write_bytes(data)
+            self.assertEqual(command(*files, tool='draw.py').stdout.count(b'<rect '), 1 + 1 + 3)
+            self.assertEqual(command(*files[:2], tool='draw.py').stdout.count(b'<rect '), 1 + 1)
+            for wrong in (1, 3):
+                before = files[wrong].read_bytes()
+                files[wrong].write_bytes(b'R 13\n')
+                done = command(*files, tool='draw.py')
+                self.assertEqual((done.returncode, done.stdout), (1, b''))
+                self.assertTrue(done.stderr.decode().startswith(f'{files[wrong]}:1: '), done.stderr)
+                files[wrong].write_bytes(before)
+            files[2].unlink()
+            done = command(*files, tool='draw.py')
+            self.assertEqual((done.returncode, done.stdout), (1, b''))
+            self.assertTrue(done.stderr.decode().startswith(f'draw.py: {files[2]}: '), done.stderr)
 
 
 class Examples(unittest.TestCase):
     def test_tapes_are_those_of_the_texts(self):
-        sources = sorted(EXAMPLES.glob('*.txt'))
-        self.assertTrue(sources)
+        texts_of_words = sorted(EXAMPLES.glob('*.words.txt'))
+        sources = sorted(set(EXAMPLES.glob('*.txt')) - set(texts_of_words))
+        self.assertTrue(sources and texts_of_words)
         for source in sources:
             data = source.with_suffix('.tape').read_bytes()
             self.assertEqual(tape.make(source.read_text()), data, source)
             lines = source.with_suffix('.lines')
             if lines.exists():
                 self.assertTrue(tape.show(data, lines.read_text()), lines)
+        for source in texts_of_words:
+            data = source.with_suffix('').read_bytes()
+            self.assertEqual(tape.make_words(source.read_text()), data, source)
+            self.assertTrue(tape.show_words(data, source.with_suffix('.lines').read_text()), source)
+
+    def test_words_of_service_stand_beside_its_boxes(self):
+        files = [EXAMPLES / ('service' + end) for end in ('.tape', '.lines', '.words', '.words.lines')]
+        page, lines, words, words_lines = (file.read_bytes() for file in files)
+        width, boxes = draw.page(page, lines.decode())
+        rects = draw.words(words, words_lines.decode())
+        self.assertEqual((width, len(boxes), len(rects)), (480, 7, 116))
+        for one in rects:
+            self.assertTrue(8 <= one.x and one.x + one.width <= 472 and one.height == 15.5, one)
+            for other in boxes + rects:
+                apart = (one.x + one.width <= other.x or other.x + other.width <= one.x or
+                         one.y + one.height <= other.y or other.y + other.height <= one.y)
+                self.assertTrue(apart or one is other, (one, other))
+        done = command(*files, tool='draw.py')
+        self.assertEqual((done.returncode, done.stdout.decode()), (0, draw.svg(width, boxes, rects)))
+        self.assertEqual(done.stdout.count(b'<rect '), 1 + 7 + 116)
 
     def test_first(self):
         self.assertEqual((EXAMPLES / 'first.tape').read_bytes(), FIRST)

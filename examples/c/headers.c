@@ -1,4 +1,5 @@
-/* Tests of the headers: the environment check in each changed mode, and the reader of lines on lines, cuts and any bytes. */
+/* Tests of the headers: the environment check in each changed mode, the example and the room of a text, and the reader of
+   lines on lines, cuts and any bytes. */
 #include <inttypes.h>
 #include <signal.h>
 #include <stdio.h>
@@ -94,6 +95,64 @@ static void say_whether_it_ends(void)
                                                               : "not delivered here, so not shown");
 }
 
+/* The text */
+
+/* The tape and the text of bulameki.h. */
+static const uint8_t box[] = {1, 0, 0, 0xC8, 0x42, 2, 0, 0, 0, 0, 0x20, 0x41, 0, 0, 0xF0, 0x41,
+                              0, 0, 0, 0, 0, 0, 0, 0, 0, 0, 0, 0};
+static const uint8_t text[] = {3, 0, 0, 0, 0x20, 0x42, 0, 0, 0x48, 0x42, 0, 0, 0xF0, 0x41, 0, 0, 0x80, 0x40,
+                               0, 0, 0x40, 0x41, 0, 0, 0, 0, 0, 0, 0, 0, 0, 0, 0, 0};
+
+static void expect_words(size_t box_len, const uint8_t *bytes, size_t len, const char *lines)
+{
+    uint8_t set[BULAMEKI_WORDS_ROOM(BULAMEKI_TEXT_LEN(BULAMEKI_MOST_WORDS))];
+    int64_t n = bulameki_set_words(box, box_len, bytes, len, set, BULAMEKI_WORDS_ROOM(len));
+    expect(n == (int64_t)strlen(lines) && memcmp(set, lines, (size_t)n) == 0, lines);
+}
+
+/* Puts a float's bits at a place of a text. */
+static void put(uint8_t *bytes, size_t at, uint32_t bits)
+{
+    size_t byte;
+    for (byte = 0; byte < 4; byte++)
+        bytes[at + byte] = (uint8_t)(bits >> 8 * byte);
+}
+
+static void check_words(void)
+{
+    static const size_t rooms[][2] = {{0, 8}, {22, 8}, {25, 8}, {26, 28}, {30, 56}, {2066, 14308}, {2070, 14336},
+                                      {2074, 14336}, {262162, 14336}};
+    static const uint8_t none[BULAMEKI_TEXT_LEN(0)], most[BULAMEKI_TEXT_LEN(512)] = {0, 2},
+        more[BULAMEKI_TEXT_LEN(513)] = {1, 2};
+    static const char two[] = "L 41200000 00000000 0 1\nL 41200000 41400000 1 2\n";
+    const size_t second = 6, height = 18, min_y = 22;
+    uint8_t changed[sizeof text + 1] = {0};
+    size_t at;
+    for (at = 0; at < sizeof rooms / sizeof *rooms; at++)
+        expect(BULAMEKI_WORDS_ROOM(rooms[at][0]) == rooms[at][1], "the room of a text");
+    expect(sizeof text == BULAMEKI_TEXT_LEN(3), "the length of a text");
+    expect_words(sizeof box, text, sizeof text, two);
+    memcpy(changed, text, sizeof text);
+    put(changed, height, 0x47800000); /* 65,536: the second line ends at 131,072 */
+    expect_words(sizeof box, changed, sizeof text, "L 41200000 00000000 0 1\nL 00000000 47800000 1 2\n");
+    put(changed, min_y, 0x3C800000); /* and a 64th further down */
+    expect_words(sizeof box, changed, sizeof text, "R 6\n");
+    put(changed, height, 0);
+    expect_words(sizeof box, changed, sizeof text, "R 10\n");
+    put(changed, second, 0xBF800000); /* -1 */
+    expect_words(sizeof box, changed, sizeof text, "R 3\n");
+    put(changed, second, 0x7FC00000);
+    expect_words(sizeof box, changed, sizeof text, "R 2\n");
+    expect_words(sizeof box, none, sizeof none, "R 10\n");
+    expect_words(sizeof box, most, sizeof most, "R 10\n");
+    expect_words(sizeof box, more, sizeof more, "R 9\n");
+    expect_words(sizeof box, changed, sizeof text - 1, "T 0\n");
+    expect_words(sizeof box, changed, sizeof text + 1, "T 0\n");
+    expect_words(sizeof box, NULL, 0, "T 0\n");
+    expect_words(sizeof box - 1, NULL, 0, "T 5\n");
+    puts("text: its lines, refusals and room");
+}
+
 /* The lines */
 
 /* Prints a line anew. */
@@ -116,6 +175,10 @@ static int print(char *to, size_t room, const struct bulameki_line *line)
     case 'R':
     case 'T':
         return snprintf(to, room, "%c %" PRIu32 "\n", line->letter, line->number);
+    case 'L':
+        return line->count == 0 ? snprintf(to, room, "L\n")
+                                : snprintf(to, room, "L %08" PRIX32 " %08" PRIX32 " %" PRIu32 " %" PRIu32 "\n", x, y,
+                                           line->first, line->count);
     default:
         return snprintf(to, room, "%c\n", line->letter);
     }
@@ -142,14 +205,15 @@ static const char *const lines[] = {
     "N\n", "W\n", "S\n", "A\n", "L\n", "P 00000000 42FE8000 192\n", "P 00000000 00000000 0\n",
     "C 95 41200000 00000000 42B40000\n", "C - C1200000 FF7FFFFF 00000001\n",
     "B 1 41200000 00000000 42B40000 42BA0000\n", "B - 9ABCDEF0 12345678 0F0F0F0F F0F0F0F0\n",
-    "I 48000000\n", "R 1\n", "R 13\n", "T 0\n", "T 65535\n",
+    "I 48000000\n", "R 1\n", "R 13\n", "T 0\n", "T 65535\n", "L 00000000 C2FE8000 0 512\n", "L 42C00000 00000001 511 1\n",
 };
 
 static const char *const no_lines[] = {
     "", "\n", "n\n", "N", "N \n", "N 1\n", "X\n", "R\n", "R \n", "R 01\n", "R 1 \n", "R  1\n", "R -\n", "T 123456\n", "T -1\n",
     "C 1 4120000 00000000 42B40000\n", "C 1 4120000a 00000000 42B40000\n", "C  41200000 00000000 42B40000\n",
     "C -1 41200000 00000000 42B40000\n", "C 1 41200000 00000000\n", "P 00000000 00000000 -\n", "I\n", "I 480000000\n",
-    "I 48000000\r\n", "B 1 41200000 00000000 42B40000\n",
+    "I 48000000\r\n", "B 1 41200000 00000000 42B40000\n", "L \n", "L 1\n", "L\r\n", "L 42C00000 00000000 0\n",
+    "L 42C00000 00000000 0 0\n", "L 42C00000 00000000 00 1\n", "L 42C00000 00000000 - 1\n", "L 42C00000 00000000 0 1 \n",
 };
 
 static void check_lines(void)
@@ -202,6 +266,7 @@ int main(void)
     for (at = 0; at < sizeof modes / sizeof *modes; at++)
         check_mode(&modes[at]);
     say_whether_it_ends();
+    check_words();
     check_lines();
     puts(wrong ? "headers: not as expected" : "headers: as expected");
     return wrong;

@@ -9,6 +9,9 @@ pub type Innermost = fn(&[u8], usize, u8) -> i64;
 /// How deep the page after a tape is: the 32 bits of an f32, or NO_BOX.
 pub type Depth = fn(&[u8]) -> i64;
 
+/// Sets a text on the page after a tape, into the room lent: how many bytes were written, or -13.
+pub type Setter = fn(&[u8], &[u8], &mut [u8]) -> i64;
+
 /// Given where the band has no float on that side, where there is no such band, and where no box was accepted.
 pub const NO_BOX: i64 = -100;
 
@@ -20,6 +23,14 @@ extern "C" {
     fn bulameki_run_tape(tape: *const u8, tape_len: usize, answers: *mut u8, room: usize) -> i64;
     fn bulameki_innermost(tape: *const u8, tape_len: usize, band: usize, side: u8) -> i64;
     fn bulameki_depth(tape: *const u8, tape_len: usize) -> i64;
+    fn bulameki_set_words(
+        tape: *const u8,
+        tape_len: usize,
+        text: *const u8,
+        text_len: usize,
+        answers: *mut u8,
+        room: usize,
+    ) -> i64;
 }
 
 /// `bulameki_run_tape` of the archive that ships, where it is linked.
@@ -49,7 +60,18 @@ pub fn depth() -> Option<Depth> {
     None
 }
 
-/// The functions of an archive; those that are none are not compared.
+/// `bulameki_set_words` of the same archive.
+pub fn set_words() -> Option<Setter> {
+    // SAFETY: all pointers are those of slices of the lengths given.
+    #[cfg(has_panel)]
+    return Some(|tape, text, room| unsafe {
+        bulameki_set_words(tape.as_ptr(), tape.len(), text.as_ptr(), text.len(), room.as_mut_ptr(), room.len())
+    });
+    #[cfg(not(has_panel))]
+    None
+}
+
+/// The functions of an archive that answer of a tape alone; those that are none are not compared.
 #[derive(Clone, Copy, Default)]
 pub struct Functions {
     pub run: Option<Runner>,
@@ -67,6 +89,11 @@ pub fn room(tape: &[u8]) -> usize {
     (11 * tape.len()).max(2)
 }
 
+/// Room that is surely enough for what is answered of a text: 28 bytes for each word, of which there are 512 at most; else 8 at most.
+pub fn set_room(text: &[u8]) -> usize {
+    (7 * text.len().saturating_sub(22)).clamp(8, 28 * 512)
+}
+
 /// The lines of a tape, by a run in such a room.
 pub fn answered(run: Runner, tape: &[u8]) -> Vec<u8> {
     let mut lent = vec![0; room(tape)];
@@ -75,14 +102,19 @@ pub fn answered(run: Runner, tape: &[u8]) -> Vec<u8> {
     lent
 }
 
-/// Stands in the room before a run, and around it; no line has this byte.
+/// How a run of a tape differs from the judge, if it does.
+pub fn difference(run: Runner, tape: &[u8], lines: &[u8], room: usize) -> Option<String> {
+    difference_in(|lent| run(tape, lent), lines, room)
+}
+
+/// Stands in the room before a call, and around it; no line has this byte.
 const GUARD: u8 = 0xEE;
 const MARGIN: usize = 64;
 
-/// How a run differs from the judge, if it does: its result, the lines, and every byte around them.
-pub fn difference(run: Runner, tape: &[u8], lines: &[u8], room: usize) -> Option<String> {
+/// How what a call leaves in its room differs, if it does: its result, the lines, and every byte around them.
+pub fn difference_in(call: impl Fn(&mut [u8]) -> i64, lines: &[u8], room: usize) -> Option<String> {
     let mut lent = vec![GUARD; MARGIN + room + MARGIN];
-    let result = run(tape, &mut lent[MARGIN..MARGIN + room]);
+    let result = call(&mut lent[MARGIN..MARGIN + room]);
     let fits = lines.len() <= room;
     let written = if fits { lines } else { &[] };
     let expected = if fits { lines.len() as i64 } else { -13 };
@@ -94,7 +126,7 @@ pub fn difference(run: Runner, tape: &[u8], lines: &[u8], room: usize) -> Option
     let mut shown: Vec<u8> = lent[MARGIN..MARGIN + room].to_vec();
     shown.truncate(shown.iter().rposition(|byte| *byte != GUARD).map_or(0, |last| last + 1));
     Some(format!(
-        "room {room}: result {result}, expected {expected}\nthe archive's lines:\n{}the crate's lines:\n{}",
+        "room {room}: result {result}, expected {expected}\nthe archive's lines:\n{}the lines expected:\n{}",
         String::from_utf8_lossy(&shown),
         String::from_utf8_lossy(written)
     ))
@@ -121,6 +153,14 @@ pub fn depth_of_nothing() -> i64 {
     unsafe { bulameki_depth(std::ptr::null(), 0) }
 }
 
+/// `bulameki_set_words` with null for the tape and for the room, both of length 0; for the text too, where it has no byte.
+#[cfg(has_panel)]
+pub fn set_on_nothing(text: &[u8]) -> i64 {
+    let at = if text.is_empty() { std::ptr::null() } else { text.as_ptr() };
+    // SAFETY: as above.
+    unsafe { bulameki_set_words(std::ptr::null(), 0, at, text.len(), std::ptr::null_mut(), 0) }
+}
+
 /// `bulameki_run_tape` on a tape that others may change meanwhile, into room that nothing else refers to.
 ///
 /// # Safety
@@ -130,37 +170,63 @@ pub unsafe fn panel_raw(tape: *const u8, tape_len: usize, answers: *mut u8, room
     bulameki_run_tape(tape, tape_len, answers, room)
 }
 
+/// `bulameki_set_words` on a tape and a text that others may change meanwhile, likewise.
+///
+/// # Safety
+/// As above.
+#[cfg(has_panel)]
+pub unsafe fn set_words_raw(
+    tape: *const u8,
+    tape_len: usize,
+    text: *const u8,
+    text_len: usize,
+    answers: *mut u8,
+    room: usize,
+) -> i64 {
+    bulameki_set_words(tape, tape_len, text, text_len, answers, room)
+}
+
 /// How deep the stack of `bulameki_run_tape` is on a tape, its return address counted.
 #[cfg(has_panel)]
 pub fn panel_stack(tape: &[u8]) -> usize {
     let mut room = vec![0; room(tape)];
-    // SAFETY: the third is the pointer of a slice, the fourth its length.
-    unsafe { stack(bulameki_run_tape as *const (), tape, room.as_mut_ptr() as usize, room.len()) }
+    // SAFETY: it takes the tape and the room, each as pointer and length.
+    unsafe { stack(bulameki_run_tape as *const (), tape, &[room.as_mut_ptr() as usize, room.len()]) }
 }
 
 /// That of `bulameki_innermost`.
 #[cfg(has_panel)]
 pub fn innermost_stack(tape: &[u8], band: usize, side: u8) -> usize {
-    // SAFETY: the third and the fourth are plain numbers.
-    unsafe { stack(bulameki_innermost as *const (), tape, band, usize::from(side)) }
+    // SAFETY: it takes the tape and two plain numbers.
+    unsafe { stack(bulameki_innermost as *const (), tape, &[band, usize::from(side)]) }
 }
 
 /// That of `bulameki_depth`.
 #[cfg(has_panel)]
 pub fn depth_stack(tape: &[u8]) -> usize {
-    // SAFETY: it takes no third and no fourth.
-    unsafe { stack(bulameki_depth as *const (), tape, 0, 0) }
+    // SAFETY: it takes the tape alone.
+    unsafe { stack(bulameki_depth as *const (), tape, &[]) }
 }
 
-/// How deep the stack of a call with a tape and up to two further arguments is: it runs on a painted one.
+/// That of `bulameki_set_words`.
+#[cfg(has_panel)]
+pub fn set_words_stack(tape: &[u8], text: &[u8]) -> usize {
+    let mut room = vec![0; set_room(text)];
+    let more = [text.as_ptr() as usize, text.len(), room.as_mut_ptr() as usize, room.len()];
+    // SAFETY: it takes the tape, the text and the room, each as pointer and length.
+    unsafe { stack(bulameki_set_words as *const (), tape, &more) }
+}
+
+/// How deep the stack of a call with a tape and up to four further arguments is: it runs on a painted one.
 ///
 /// # Safety
-/// It is a C function that takes the tape as pointer and length, then these two or fewer.
+/// It is a C function that takes the tape as pointer and length, then these.
 #[cfg(has_panel)]
-unsafe fn stack(call: *const (), tape: &[u8], third: usize, fourth: usize) -> usize {
+unsafe fn stack(call: *const (), tape: &[u8], more: &[usize]) -> usize {
     const PAINT: u8 = 0xA5;
     let mut stack = vec![PAINT; 1 << 20];
     let top = stack.as_mut_ptr_range().end as usize & !15;
+    let argument = |at: usize| more.get(at).copied().unwrap_or(0);
     // SAFETY: the call finds an aligned stack and leaves it as it was.
     unsafe {
         std::arch::asm!(
@@ -172,8 +238,10 @@ unsafe fn stack(call: *const (), tape: &[u8], third: usize, fourth: usize) -> us
             call = in(reg) call,
             in("rdi") tape.as_ptr(),
             in("rsi") tape.len(),
-            in("rdx") third,
-            in("rcx") fourth,
+            in("rdx") argument(0),
+            in("rcx") argument(1),
+            in("r8") argument(2),
+            in("r9") argument(3),
             out("r12") _,
             clobber_abi("C"),
         );

@@ -4,12 +4,13 @@ use crate::tape::{Record, NONE};
 use crate::{AvailableSpace, Clear, Direction, FloatDirection, Size};
 
 /// The least that is allowed of a length and of an offset, and the most of both.
-const LENGTH: f32 = 0.0;
-const OFFSET: f32 = -65_536.0;
-const MOST: f32 = 65_536.0;
+pub const LENGTH: f32 = 0.0;
+pub const OFFSET: f32 = -65_536.0;
+pub const MOST: f32 = 65_536.0;
 pub const REACH: f32 = 131_072.0;
 pub const BOXES: usize = 64;
 pub const BANDS: usize = 96;
+pub const WORDS: usize = 512;
 
 #[derive(Debug, Clone, Copy)]
 pub struct Placement {

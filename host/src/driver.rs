@@ -93,7 +93,7 @@ fn simpler(piece: &[u8]) -> Vec<Vec<u8>> {
 }
 
 /// The smallest tape found that still differs: records taken out, most at a time first, then numbers made simple.
-fn shrunk(tape: &[u8], differs: impl Fn(&[u8]) -> bool) -> Vec<u8> {
+pub fn shrunk(tape: &[u8], differs: impl Fn(&[u8]) -> bool) -> Vec<u8> {
     let differs = |pieces: &[Vec<u8>]| differs(&pieces.concat());
     let mut best = pieces(tape);
     if tape.len() > LONGEST || !differs(&best) {

@@ -1,9 +1,9 @@
-//! The jobs of `bulameki_run_tape` and of `bulameki_depth` in plain Rust over the crate, as lean as one would write them: what the bench
-//! measures the archive against.
+//! The jobs of `bulameki_run_tape`, `bulameki_depth` and `bulameki_set_words` in plain Rust over the crate, as lean as one would write
+//! them: what the bench measures the archive against.
 //! The crate gives no step count: its lines have 0 there. Calls that clear are asked as `raised` says.
 
 use crate::account::returned;
-use crate::call::{Call, Placement, BANDS, BOXES, REACH};
+use crate::call::{Call, Placement, BANDS, BOXES, LENGTH, MOST, OFFSET, REACH, WORDS};
 use crate::float_read::{BfcSlot, ContentSlot, FloatContext, FloatIntrinsicWidthCalculator};
 use crate::tape::{record_at, Record, LONGEST};
 use crate::{AvailableSpace, Clear, FloatDirection, Point};
@@ -134,6 +134,15 @@ impl Lines<'_> {
         self.room.get_mut(from..self.length)
     }
 
+    /// What a call returns: how many bytes the lines have, or -13 where the room has fewer.
+    fn written(&self) -> i64 {
+        if self.length <= self.room.len() {
+            self.length as i64
+        } else {
+            -13
+        }
+    }
+
     #[inline]
     fn letter(&mut self, letter: u8) {
         if let Some(to) = self.next(1) {
@@ -200,16 +209,12 @@ pub fn run(tape: &[u8], room: &mut [u8]) -> i64 {
             lines.letter(b'\n');
         }
     }
-    if lines.length <= lines.room.len() {
-        lines.length as i64
-    } else {
-        -13
-    }
+    lines.written()
 }
 
-/// The job of `bulameki_depth`, an `archive::Runner` that writes nothing: the depth is the larger of the bottoms that the crate keeps.
-pub fn depth(tape: &[u8], _: &mut [u8]) -> i64 {
-    let tape = if tape.len() > LONGEST { &[] } else { tape };
+/// The page after a tape, run without a line, and where the tape stops.
+#[inline(always)]
+fn page_after(tape: &[u8]) -> (FloatContext, usize) {
     let mut job = Job::default();
     let mut at = 0;
     while let Some((record, next)) = record_at(tape, at) {
@@ -221,7 +226,121 @@ pub fn depth(tape: &[u8], _: &mut [u8]) -> i64 {
         }
         at = next;
     }
-    returned(job.page.cleared_threshold(Clear::Both))
+    (job.page, at)
+}
+
+/// The job of `bulameki_depth`, an `archive::Runner` that writes nothing: the depth is the larger of the bottoms that the crate keeps.
+pub fn depth(tape: &[u8], _: &mut [u8]) -> i64 {
+    let tape = if tape.len() > LONGEST { &[] } else { tape };
+    let (page, _) = page_after(tape);
+    returned(page.cleared_threshold(Clear::Both))
+}
+
+/// The job of `bulameki_set_words`, an `archive::Setter`. Each line is written when it is set: where a later one passes the reach, or the
+/// room is too short, part of them stays in the room behind what counts.
+pub fn set_words(tape: &[u8], text: &[u8], room: &mut [u8]) -> i64 {
+    let mut lines = Lines { room, length: 0 };
+    if tape.len() > LONGEST {
+        lines.letter(b'L');
+        lines.letter(b'\n');
+        return lines.written();
+    }
+    let (page, at) = page_after(tape);
+    let set = match read_text(text) {
+        _ if at < tape.len() => Err((b'T', at as u32)),
+        None => Err((b'T', 0)),
+        Some((words, figures)) => set(&page, words, figures, &mut lines).map_err(|number| (b'R', number)),
+    };
+    if let Err((letter, number)) = set {
+        lines.length = 0;
+        lines.letter(letter);
+        lines.decimal(number);
+        lines.letter(b'\n');
+    }
+    lines.written()
+}
+
+fn number(four: &[u8]) -> f32 {
+    f32::from_le_bytes(four.try_into().unwrap())
+}
+
+/// The widths, four bytes each, and gap, height, min_y and insets; none if there are more or fewer than the count says.
+fn read_text(text: &[u8]) -> Option<(&[u8], [f32; 5])> {
+    let (count, rest) = text.split_first_chunk()?;
+    let (words, figures) = rest.split_at_checked(4 * usize::from(u16::from_le_bytes(*count)))?;
+    (figures.len() == 20).then(|| (words, [0, 4, 8, 12, 16].map(|at| number(&figures[at..at + 4]))))
+}
+
+/// Writes the lines, or gives the first refusal. Lines go down, so bands above one are not looked at again.
+fn set(page: &FloatContext, words: &[u8], figures: [f32; 5], lines: &mut Lines) -> Result<(), u32> {
+    let [gap, height, min_y, left, right] = figures.map(|figure| figure + 0.0);
+    let widths = words.chunks_exact(4).map(number);
+    let length = |x: &f32| (LENGTH..=MOST).contains(x);
+    if !(widths.clone().all(|width| length(&width))
+        && [gap, height, left, right].iter().all(length)
+        && (OFFSET..=MOST).contains(&min_y))
+    {
+        return Err(if widths.chain(figures).all(f32::is_finite) { 3 } else { 2 });
+    }
+    let count = words.len() / 4;
+    if count > WORDS {
+        return Err(9);
+    }
+    if height == 0.0 {
+        return Err(10);
+    }
+    let width = |at: usize| number(&words[4 * at..4 * at + 4]);
+    let larger = |a: f32, b: f32| if a > b { a } else { b };
+    let (mut first, mut top, mut above) = (0, min_y, 0);
+    while first < count {
+        let bottom = top + height;
+        if bottom > REACH {
+            return Err(6);
+        }
+        while page.band(above).is_some_and(|(y, _)| y.end <= top) {
+            above += 1;
+        }
+        let mut edges = [left, right];
+        let mut below = above;
+        while let Some((_, insets)) = page.band(below).filter(|(y, _)| y.start < bottom) {
+            edges = [larger(edges[0], insets[0]), larger(edges[1], insets[1])];
+            below += 1;
+        }
+        let room = page.width() - edges[0] - edges[1];
+        let mut sum = width(first);
+        if sum > room && below > above {
+            top = next_top(page, above, top);
+            continue;
+        }
+        let mut next = first + 1;
+        while next < count {
+            sum = sum + gap + width(next);
+            if sum > room {
+                break;
+            }
+            next += 1;
+        }
+        lines.letter(b'L');
+        lines.numbers([edges[0], top]);
+        lines.decimal(first as u32);
+        lines.decimal((next - first) as u32);
+        lines.letter(b'\n');
+        (first, top) = (next, bottom);
+    }
+    Ok(())
+}
+
+/// The next band start below a top, from this band on, or the last end.
+fn next_top(page: &FloatContext, from: usize, top: f32) -> f32 {
+    let mut last = top;
+    for band in from.. {
+        match page.band(band) {
+            Some((y, _)) if y.start > top => return y.start,
+            Some((y, _)) => last = y.end,
+            None => break,
+        }
+    }
+    last
 }
 
 /// Lines without what the crate does not give: the step count at the end of each P.

@@ -34,6 +34,13 @@ pub mod rows;
 pub mod stored;
 pub mod tape;
 pub mod tapes;
+pub mod text;
+#[cfg(has_taffy)]
+pub mod texts;
+#[cfg(has_taffy)]
+pub mod words;
+#[cfg(has_taffy)]
+pub mod words_driver;
 
 use std::io::Write;
 

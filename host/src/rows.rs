@@ -2,7 +2,7 @@
 
 use crate::answers;
 use crate::archive::{self, Runner};
-use crate::call::{BANDS, REACH};
+use crate::call::{BANDS, REACH, WORDS};
 use crate::grouped;
 use crate::job;
 use crate::judge::{self, Answer, Judge};
@@ -10,6 +10,7 @@ use crate::judge::{self, Answer, Judge};
 use crate::kept;
 use crate::random::Random;
 use crate::tape::{bytes, Record, LONGEST, NONE};
+use crate::text::Text;
 use std::hint::black_box;
 
 /// The numbers of boxes at which pages are measured.
@@ -228,6 +229,59 @@ fn deep(boxes: usize) -> Row {
     Row { name, records: 1, sides: [read_depth, job::depth], same: true, with, without: vec![] }
 }
 
+/// Words of a panel: 10 to 60 wide, 4 apart, on lines 14 high.
+pub fn text(number: usize, count: usize) -> Vec<u8> {
+    let mut random = Random(number as u64);
+    let words = (0..count).map(|_| (10 + random.below(51)) as f32).collect();
+    Text { words, gap: 4.0, height: 14.0, min_y: 0.0, insets: [0.0, 0.0] }.bytes()
+}
+
+/// A tape and a text as one tape of a run: how long the tape is, then both.
+fn joined(tape: &[u8], text: &[u8]) -> Run {
+    let length = (tape.len() as u32).to_le_bytes();
+    Run { tape: [&length[..], tape, text].concat(), room: archive::set_room(text) }
+}
+
+fn parted(joined: &[u8]) -> (&[u8], &[u8]) {
+    let (length, both) = joined.split_first_chunk().expect("joined");
+    both.split_at(u32::from_le_bytes(*length) as usize)
+}
+
+/// `bulameki_set_words` as a Runner.
+fn set_words(joined: &[u8], room: &mut [u8]) -> i64 {
+    let (tape, text) = parted(joined);
+    archive::set_words().expect("linked")(tape, text, room)
+}
+
+/// The same job in Rust.
+fn set_by_job(joined: &[u8], room: &mut [u8]) -> i64 {
+    let (tape, text) = parted(joined);
+    job::set_words(tape, text, room)
+}
+
+/// Texts of so many words, each on a page of its own; and the same call with no word.
+fn words(boxes: usize, count: usize) -> Row {
+    let runs = |count: usize| {
+        let run = |number| joined(&bytes(&page(number, boxes)), &text(number, count));
+        (0..PAGES).map(run).collect()
+    };
+    Row {
+        name: format!("a word set, {count} on a page of {boxes}"),
+        records: PAGES * count,
+        sides: [set_words, set_by_job],
+        same: true,
+        with: runs(count),
+        without: runs(0),
+    }
+}
+
+/// The call that sets them, its tape included.
+fn words_at_once(boxes: usize, count: usize) -> Row {
+    let with = vec![joined(&bytes(&page(0, boxes)), &text(0, count))];
+    let name = format!("{count} words set on a page of {boxes}, whose tape is run");
+    Row { name, records: 1, sides: [set_words, set_by_job], same: true, with, without: vec![] }
+}
+
 /// Pages of 64 with questions, as many as a tape takes.
 fn longest() -> Vec<u8> {
     let mut tape = Vec::new();
@@ -274,6 +328,8 @@ pub fn rows() -> Vec<Row> {
     }
     rows.push(whole(format!("a page of {full}, no question"), vec![Run::sure(bytes(&page(0, full)))]));
     rows.extend([innermost(full), deep(full)]);
+    rows.extend(SIZES.map(|boxes| words(boxes, WORDS)));
+    rows.extend([words_at_once(full, WORDS), words_at_once(full, 0)]);
     let between = format!("a page of {full}, two questions after each box");
     rows.push(whole(between, vec![Run::sure(bytes(&asked_between(0, full)))]));
     let exact = format!("a page of {full}, {} questions, no room to spare", 2 * full);

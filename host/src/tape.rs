@@ -261,7 +261,7 @@ impl Record {
 }
 
 /// A short decimal that gives the same bits, or the bits.
-fn number(x: f32) -> String {
+pub fn number(x: f32) -> String {
     let decimal = format!("{x}");
     if x.is_finite() && decimal.len() <= 12 && decimal.parse() == Ok(x) {
         decimal

@@ -1,8 +1,9 @@
-//! A tape that changes during the call: whatever it is answered, nothing is written past the room, nor before it.
+//! A tape or a text that changes during the call: whatever it is answered, nothing is written past the room, nor before it.
 #![cfg(has_panel)]
 
-use host::archive::panel_raw;
+use host::archive::{panel_raw, set_words_raw};
 use host::tape::{bytes, Record};
+use host::text::Text;
 use std::sync::atomic::{AtomicBool, AtomicU8, Ordering::Relaxed};
 
 const PAGE: usize = 4_096;
@@ -53,21 +54,34 @@ fn tape(questions: usize) -> Vec<u8> {
     tape
 }
 
-/// Calls while another thread makes the mode known and unknown; the room is just enough for the shorter lines, and lies at the
-/// upper or the lower end of its pages.
-fn calls(inner: *mut u8, questions: usize, count: usize) -> [usize; 3] {
-    let mut tape = tape(questions);
-    let length = tape.len();
-    let at = tape.as_mut_ptr();
-    let room = 4 + 4 * questions;
+/// Words that fit one line of a page of 100, but none beside another if its width or the gap is changed by this bit of its last byte.
+fn text() -> Vec<u8> {
+    let gap = f32::from_bits(65_536f32.to_bits() ^ u32::from(FAR) << 24);
+    Text { words: vec![4.0; 16], gap, height: 8.0, min_y: 0.0, insets: [0.0, 0.0] }.bytes()
+}
+
+const FAR: u8 = 0x40;
+
+/// Calls while another thread changes a byte to and fro; the room is just enough for the shorter lines, and lies at the upper or the lower
+/// end of its pages.
+///
+/// # Safety
+/// The byte lives, and is read and written by the calls and by this alone; a call writes to the room alone.
+unsafe fn calls(
+    inner: *mut u8,
+    (byte, change): (*mut u8, u8),
+    room: usize,
+    count: usize,
+    answer: impl Fn(*mut u8) -> i64,
+) -> [usize; 3] {
     let stop = AtomicBool::new(false);
-    // SAFETY: the byte lives until the threads are joined, and is read and written by the archive and by this alone.
-    let mode = unsafe { AtomicU8::from_ptr(at.add(1)) };
+    // SAFETY: as above.
+    let byte = unsafe { AtomicU8::from_ptr(byte) };
     let mut answered = [0; 3];
     std::thread::scope(|threads| {
         threads.spawn(|| {
             while !stop.load(Relaxed) {
-                mode.fetch_xor(2, Relaxed);
+                byte.fetch_xor(change, Relaxed);
                 std::hint::spin_loop();
             }
         });
@@ -75,7 +89,7 @@ fn calls(inner: *mut u8, questions: usize, count: usize) -> [usize; 3] {
             let offset = if call % 2 == 0 { ROOM_PAGES * PAGE - room } else { 0 };
             // SAFETY: the room lies within its pages.
             let (result, pages) = unsafe {
-                let result = panel_raw(at, length, inner.add(offset), room);
+                let result = answer(inner.add(offset));
                 (result, std::slice::from_raw_parts_mut(inner, ROOM_PAGES * PAGE))
             };
             assert!(result == -13 || (0..=room as i64).contains(&result), "{result} for a room of {room}");
@@ -91,19 +105,42 @@ fn calls(inner: *mut u8, questions: usize, count: usize) -> [usize; 3] {
     answered
 }
 
+fn check(changing: &str, all: [usize; 3]) {
+    let [short, other, whole] = all;
+    let count: usize = all.iter().sum();
+    host::say(&format!(
+        "{count} calls on a changing {changing}: {short} of -13, {whole} fill the room, {other} do not"
+    ));
+    assert!(short > 0 && whole > 0, "the {changing} did not change during the calls");
+}
+
 #[test]
 fn nothing_is_written_past_the_room() {
     let inner = guarded();
     let mut all = [0; 3];
     for (questions, count) in [(1_000, 1_000), (40, 49_000), (3, 50_000)] {
-        for (sum, more) in all.iter_mut().zip(calls(inner, questions, count)) {
-            *sum += more;
-        }
+        let mut tape = tape(questions);
+        let (at, length, room) = (tape.as_mut_ptr(), tape.len(), 4 + 4 * questions);
+        // SAFETY: the tape and the room have these lengths; the byte is the tape's mode.
+        let answered = unsafe { calls(inner, (at.add(1), 2), room, count, |lent| panel_raw(at, length, lent, room)) };
+        all.iter_mut().zip(answered).for_each(|(sum, more)| *sum += more);
     }
-    let [short, other, whole] = all;
-    host::say(&format!(
-        "{} calls on a changing tape: {short} of -13, {whole} fill the room, {other} do not",
-        all.iter().sum::<usize>()
-    ));
-    assert!(short > 0 && whole > 0, "the tape did not change during the calls");
+    check("tape", all);
+
+    let tape = bytes(&[Record::Width(100.0)]);
+    let of_text = tape.len();
+    let mut both = [tape, text()].concat();
+    // one line, of 25 bytes, or sixteen; T 0, or one line
+    let changing = [("page width", of_text - 1, FAR, 25), ("gap", both.len() - 17, FAR, 25), ("count", of_text, 1, 4)];
+    for (name, byte, change, room) in changing {
+        let before = both[byte];
+        let (at, length) = (both.as_mut_ptr(), both.len() - of_text);
+        // SAFETY: tape, text and room have these lengths; the byte is one of theirs.
+        let answered = unsafe {
+            let answer = |lent| set_words_raw(at, of_text, at.add(of_text), length, lent, room);
+            calls(inner, (at.add(byte), change), room, 50_000, answer)
+        };
+        check(name, answered);
+        both[byte] = before;
+    }
 }

@@ -33,7 +33,7 @@ natAbs-plus (negsuc a) (negsuc b) = omega arith
 q-short : {x : Float} (p : Q x) → natAbs (subℕ (p .n) mid) ≤ half
 q-short p = both (λ z. natAbs z ≤ half) (ltb (p .n) mid) (λ t. omega (arith, ltb→lt (p .n) mid t, p .low)) (λ t. omega (arith, p .high))
 
-exact-sum : {x y : Float} → Q x → Q y → ExactSum x y (add binary32 x y)
+pub exact-sum : {x y : Float} → Q x → Q y → ExactSum x y (add binary32 x y)
 unfolding at64
 exact-sum p q =
     let i = q-short p in

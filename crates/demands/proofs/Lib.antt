@@ -31,3 +31,5 @@ pub mod Reached
 pub mod Edges
 pub mod Said
 pub mod Promises
+-- the tests of numbers, for what is refused above
+pub mod Tested

@@ -1,12 +1,12 @@
--- Document 01's twelve marked examples and its tape as one table, with the boxes that their bands name (1/14) and how deep their pages are (3/14), and the theorem that the definitions give every figure in it.
+-- Document 01's twelve marked examples and its tape as one table, with the boxes that their bands name (1/14), how deep their pages are (3/14) and words set around their boxes (4/14), and the theorem that the definitions give every figure in it.
 use Prim.Native.Nat.{ℕ}
 use mathlib.Core.Path.{_≡_, refl}
 use mathlib.Core.Bool.{Bool, true, false, _&&_, cond}
-use mathlib.Core.List.{List, [], _∷_, _++_}
+use mathlib.Core.List.{List, [], _∷_, _++_, map, flatMap}
 use lib.IntN.{ℤ, pos, negsuc}
 use lib.Count.{trailingZeros}
 use lib.Dec.{eqb}
-use lib.ListN.{length}
+use lib.ListN.{length, take, replicate}
 use lib.Ieee.{Float, binary32, nan, add, sub, lt, le, eq, ofBits, ofFields, ofInt, neg, toBits, sum, round, units, odd, size, span, climb}
 use Rattle.f32_laws.specs.Numbers.{larger, smaller, zero+, tol}
 use Rattle.float.specs.declared.BandNumber.{BandNumber}
@@ -21,10 +21,13 @@ use Rattle.float.specs.Fit.{passes, placedAt, fits}
 use Rattle.float.specs.Search.{joined, taller, highTurn, joinTurn, endTurn, fitTurn, startTurn, search, searchFrom}
 use Rattle.float.specs.Place.{Call, lowest, spotOf, walked, make, high, flat, put, admitted, checked, place, placeOf, widthCheck, setWidth, widthOf}
 use Rattle.float.specs.Slot.{ContentCall, depthOf, innermost, active, seek, contentSlot, content}
+use Rattle.words.specs.Text.{Text, checkOf as checkText}
+use Rattle.words.specs.Lines.{spanOver, spanAt, more, nextStart, movedTo, turnAt, setFrom, setOn, setWords, answered, lineValues, saidLines}
 use Rattle.tape.specs.Bytes.{f32At, digits, float as floatText, decimals, decimal, fields}
 use Rattle.tape.specs.Record.{afterAt, readOf}
 use Rattle.tape.specs.Lines.{refusedLine, doneLine, placeLine, band, contentLine}
-use Rattle.tape.specs.Tape.{freshState, stepOf, run, linesOf, runs, pageAfter, depthAfter}
+use Rattle.tape.specs.Tape.{freshState, stepOf, run, linesOf, runs, pageAfter, depthAfter, broken}
+use Rattle.tape.specs.Text.{floatsAt, setLine, toldLines, orElse, wordsAfter}
 
 -- what is done to the page, and what it must say by the paper's numbers and values
 pub data Entry : Type 0 where
@@ -36,8 +39,10 @@ pub data Entry : Type 0 where
   names : ℕ → Value → Value → Entry
   slot : ContentCall → Said → Entry
   deep : Value → Entry
+  text : Text → Said → Entry
   tape : List ℕ → List ℕ → Entry
   deepAfter : List ℕ → ℤ → Entry
+  wordsOf : (tape text lines : List ℕ) → Entry
 
 -- a whole number, and the bits of a float
 abbrev pub n : ℕ → Float
@@ -87,8 +92,10 @@ holds (touch i d s ∷ es) p = touches p i d s && holds es p
 holds (names i l r ∷ es) p = touches p i 0 (values (l ∷ [])) && touches p i 1 (values (r ∷ [])) && holds es p
 holds (slot c s ∷ es) p = same (told (saidContent (content (pageOf p) c))) (told s) && holds es p
 holds (deep v ∷ es) p = same (told (saidDepth (depthOf (pageOf p)))) (told (values (v ∷ []))) && holds es p
+holds (text t s ∷ es) p = same (told (saidLines (answered (setWords (pageOf p) t)))) (told s) && holds es p
 holds (tape t ls ∷ es) p = same (linesOf t) ls && holds es p
 holds (deepAfter t k ∷ es) p = same (returned (depthAfter t)) (returned k) && holds es p
+holds (wordsOf t x ls ∷ es) p = same (wordsAfter t x) ls && holds es p
 
 -- ---- the calls of the examples: min_y 0, insets 0 and no clear unless said; the answer x, y, steps
 abbrev pub at : ℕ → ℕ → ℕ → Said
@@ -111,6 +118,17 @@ down y = deep (float (n y))
 abbrev pub ask : ℕ → ℕ → Value → ℕ → ℕ → ℕ → Entry
 ask y clear i x y' w = slot (record { minY = n y; left = n 0; right = n 0; clear = clear; after = BandNumber.None }) (values (i ∷ float (n x) ∷ float (n y') ∷ float (n w) ∷ []))
 
+-- words of these widths (4/14), gap, line height, min_y and insets; a line is x, y, its first word and its count
+abbrev pub words : List ℕ → ℕ → ℕ → ℕ → ℕ → ℕ → Said → Entry
+words ws g h y l r s = text (record { widths = map n ws; gap = n g; height = n h; minY = n y; left = n l; right = n r }) s
+
+abbrev pub line : ℕ → ℕ → ℕ → ℕ → List Value
+line x y k c = float (n x) ∷ float (n y) ∷ count k ∷ count c ∷ []
+
+-- the widths, one min_y and one line height as they are
+abbrev pub wide : List Float → Float → Float → Said → Entry
+wide ws h y s = text (record { widths = ws; gap = n 0; height = h; minY = y; left = n 0; right = n 0 }) s
+
 -- the tape of document 01: width 100, a left box 10 by 30 at 0, a content question at 0, then byte 9
 pub firstTape : List ℕ
 firstTape =
@@ -127,6 +145,22 @@ firstLines =
     ∷ 80 ∷ 32 ∷ 48 ∷ 48 ∷ 48 ∷ 48 ∷ 48 ∷ 48 ∷ 48 ∷ 48 ∷ 32 ∷ 48 ∷ 48 ∷ 48 ∷ 48 ∷ 48 ∷ 48 ∷ 48 ∷ 48 ∷ 32 ∷ 48 ∷ 10
     ∷ 67 ∷ 32 ∷ 49 ∷ 32 ∷ 52 ∷ 49 ∷ 50 ∷ 48 ∷ 48 ∷ 48 ∷ 48 ∷ 48 ∷ 32 ∷ 48 ∷ 48 ∷ 48 ∷ 48 ∷ 48 ∷ 48 ∷ 48 ∷ 48 ∷ 32 ∷ 52 ∷ 50 ∷ 66 ∷ 52 ∷ 48 ∷ 48 ∷ 48 ∷ 48 ∷ 10
     ∷ 84 ∷ 32 ∷ 52 ∷ 52 ∷ 10
+    ∷ []
+
+-- a text (4/14): three words 40, 50 and 30 wide, gap 4, line height 12, min_y 0, insets 0
+pub firstText : List ℕ
+firstText =
+    3 ∷ 0
+    ∷ 0 ∷ 0 ∷ 32 ∷ 66 ∷ 0 ∷ 0 ∷ 72 ∷ 66 ∷ 0 ∷ 0 ∷ 240 ∷ 65
+    ∷ 0 ∷ 0 ∷ 128 ∷ 64 ∷ 0 ∷ 0 ∷ 64 ∷ 65
+    ∷ 0 ∷ 0 ∷ 0 ∷ 0 ∷ 0 ∷ 0 ∷ 0 ∷ 0 ∷ 0 ∷ 0 ∷ 0 ∷ 0
+    ∷ []
+
+-- its lines beside the left box: L 41200000 00000000 0 1; L 41200000 41400000 1 2
+pub firstWords : List ℕ
+firstWords =
+    76 ∷ 32 ∷ 52 ∷ 49 ∷ 50 ∷ 48 ∷ 48 ∷ 48 ∷ 48 ∷ 48 ∷ 32 ∷ 48 ∷ 48 ∷ 48 ∷ 48 ∷ 48 ∷ 48 ∷ 48 ∷ 48 ∷ 32 ∷ 48 ∷ 32 ∷ 49 ∷ 10
+    ∷ 76 ∷ 32 ∷ 52 ∷ 49 ∷ 50 ∷ 48 ∷ 48 ∷ 48 ∷ 48 ∷ 48 ∷ 32 ∷ 52 ∷ 49 ∷ 52 ∷ 48 ∷ 48 ∷ 48 ∷ 48 ∷ 48 ∷ 32 ∷ 49 ∷ 32 ∷ 50 ∷ 10
     ∷ []
 
 pub table : List Entry
@@ -196,13 +230,58 @@ table =
     ∷ width (b 0x4780_0001) (refused 3)
     ∷ full 0 0 nan (neg (n 1)) (n 0) (n 0) (n 0) (refused 2)
     ∷ deep missing
+    -- 4/14, around example 2's boxes: a line beside one band, beside two, below one; a band that ends at the top is not touched; the container's inset beside the band's
+    ∷ fresh
+    ∷ left 10 10 0 0 0
+    ∷ right 10 30 90 0 1
+    ∷ words (30 ∷ 30 ∷ 30 ∷ 30 ∷ 30 ∷ []) 5 8 0 0 0 (values (line 10 0 0 2 ++ line 10 8 2 2 ++ line 0 16 4 1))
+    ∷ words (85 ∷ []) 0 5 10 0 0 (values (line 0 10 0 1))
+    ∷ words (40 ∷ 30 ∷ []) 5 8 0 20 0 (values (line 20 0 0 1 ++ line 20 8 1 1))
+    -- no gap before the first word; one between two, which may fill the room; as many words as may be, of no width
+    ∷ words (80 ∷ []) 5 5 0 0 0 (values (line 10 0 0 1))
+    ∷ words (40 ∷ 40 ∷ []) 5 5 0 0 0 (values (line 10 0 0 1 ++ line 10 5 1 1))
+    ∷ words (40 ∷ 35 ∷ []) 5 5 0 0 0 (values (line 10 0 0 2))
+    ∷ wide (replicate 512 (n 0)) (n 1) (n 0) (values (line 10 0 0 512))
+    -- a word too wide moves to the next start; to the last end, where it stands whether it fits or not; so it does in a room below 0
+    ∷ words (85 ∷ []) 0 5 0 0 0 (values (line 0 10 0 1))
+    ∷ words (95 ∷ []) 0 5 0 0 0 (values (line 0 30 0 1))
+    ∷ wide (n 95 ∷ []) (n 6) (neg (n 5)) (values (line 0 30 0 1))
+    ∷ words (150 ∷ 5 ∷ []) 0 5 30 0 0 (values (line 0 30 0 1 ++ line 0 35 1 1))
+    ∷ words (0 ∷ []) 0 5 0 60 60 (values (line 60 30 0 1))
+    -- a band that starts at the bottom is not touched; one that starts above it is
+    ∷ fresh
+    ∷ left 10 10 0 0 0
+    ∷ full 0 0 (n 30) (n 10) (n 10) (n 0) (n 0) (at 0 10 0)
+    ∷ words (75 ∷ []) 0 8 2 0 0 (values (line 10 2 0 1))
+    ∷ words (75 ∷ []) 0 9 2 0 0 (values (line 0 20 0 1))
+    -- refusals: 2 before all, past the 512th word too; 3 before 9 and 10; 9 before 10; 10 with no word; 6 and no line at all
+    ∷ wide (replicate 512 (n 1) ++ nan ∷ []) (n 0) (n 0) (refused 2)
+    ∷ wide (replicate 512 (n 1) ++ b 0x4780_0001 ∷ []) (n 0) (n 0) (refused 3)
+    ∷ wide (neg (n 1) ∷ []) (n 1) (n 0) (refused 3)
+    ∷ wide (replicate 513 (n 1)) (n 0) (n 0) (refused 9)
+    ∷ words [] 0 0 0 0 0 (refused 10)
+    ∷ words [] 0 1 0 0 0 (values [])
+    ∷ words (60 ∷ []) 0 65536 65536 0 0 (values (line 0 65536 0 1))
+    ∷ words (60 ∷ 60 ∷ []) 0 65536 65536 0 0 (refused 6)
+    -- a line height that rounding swallows; minus zero
+    ∷ wide (n 60 ∷ n 60 ∷ []) (b 0x3580_0000) (n 65536) (values (line 0 65536 0 1 ++ line 0 65536 1 1))
+    ∷ wide (n 5 ∷ []) (n 1) (b 0x8000_0000) (values (line 10 0 0 1))
+    -- off whole 64ths: 0.1 + 83.600006 is rounded up to 83.700005, and the box begins at 83.7
+    ∷ fresh
+    ∷ full 0 0 (b 0x3dcc_cccd) (n 10) (n 0) (n 0) (n 0) (at 0 0 0)
+    ∷ full 1 0 (b 0x4182_6666) (n 10) (n 0) (n 0) (n 0) (values (float (b 0x42a7_6666) ∷ float (n 0) ∷ count 0 ∷ []))
+    ∷ wide (b 0x42a7_3334 ∷ []) (n 5) (n 0) (values (float (b 0x3dcc_cccd) ∷ float (n 0) ∷ count 0 ∷ count 1 ∷ []))
     -- 12, and the tape of "The tape"; 3/14: what C is told of the page after each, -100 and the bits of 30
     ∷ tape [] []
     ∷ deepAfter [] (negsuc 99)
     ∷ tape firstTape firstLines
     ∷ deepAfter firstTape (pos 0x41f0_0000)
+    -- 4/14: the text set after the tape's first two records; after all of it, where it stops; a text a byte too short
+    ∷ wordsOf (take 28 firstTape) firstText firstWords
+    ∷ wordsOf firstTape firstText (84 ∷ 32 ∷ 52 ∷ 52 ∷ 10 ∷ [])
+    ∷ wordsOf [] (take 33 firstText) (84 ∷ 32 ∷ 48 ∷ 10 ∷ [])
     ∷ []
 
 pub marked-examples : holds table freshContext ≡ true
-unfolding depthOf innermost holds same allWritten table firstTape firstLines pageOf stored front freshContext lower raiseTo cleared splitAt markAll lastEnd firstBelow passes placedAt fits joined taller highTurn joinTurn endTurn fitTurn startTurn search searchFrom plusZero finite within inReach allFinite allAllowed checkOf lowest spotOf walked make high flat put admitted checked place placeOf widthCheck setWidth widthOf active seek contentSlot content f32At digits floatText decimals decimal fields afterAt readOf refusedLine doneLine placeLine band contentLine freshState stepOf run linesOf runs pageAfter depthAfter larger smaller zero+ tol add sub lt le eq ofBits ofFields ofInt neg toBits sum round units odd size span climb trailingZeros
+unfolding spanOver spanAt more nextStart movedTo turnAt setFrom setOn setWords answered lineValues checkText depthOf innermost holds same allWritten table firstTape firstLines pageOf stored front freshContext lower raiseTo cleared splitAt markAll lastEnd firstBelow passes placedAt fits joined taller highTurn joinTurn endTurn fitTurn startTurn search searchFrom plusZero finite within inReach allFinite allAllowed checkOf lowest spotOf walked make high flat put admitted checked place placeOf widthCheck setWidth widthOf active seek contentSlot content f32At digits floatText decimals decimal fields afterAt readOf refusedLine doneLine placeLine band contentLine freshState stepOf run linesOf runs pageAfter depthAfter broken floatsAt setLine toldLines orElse wordsAfter firstText firstWords flatMap larger smaller zero+ tol add sub lt le eq ofBits ofFields ofInt neg toBits sum round units odd size span climb trailingZeros
 marked-examples = refl

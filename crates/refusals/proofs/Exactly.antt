@@ -26,15 +26,17 @@ use Rattle.float.specs.Page.{Page, pageOf}
 use Rattle.float.specs.Place.{Call, cleaned, Result, askOf, spotOf, near, high, flat, put, admitted, checked as checkedOf, place, placeOf, widthCheck, widthOf}
 use Rattle.float.specs.Slot.{ContentCall, BfcCall, hasActiveFloats, clearedThreshold, innermost as innermostOf, content as contentOf, bfc as bfcOf}
 use Rattle.float.specs.Calculator.{calculatorOf, zeroed, plusOn, added, addedSums, addOf}
+use Rattle.demands.specs.Runs.{Some}
+use Rattle.demands.proofs.Tested.{Fails, plus, and-also, and-last, not-passed, not-below, not-above}
 use Rattle.tape.specs.declared.record.Mode.{Mode}
 use Rattle.tape.specs.declared.step.Calculator.{Calculator}
 use Rattle.tape.specs.Lines.{refusedLine}
 use Rattle.tape.specs.Tape.{notAdded, startOf, addTo, resultLine, linesOf, returned}
-use Rattle.refusals.specs.Numbered.{Asked, handed, width, active, box, content, bfc, threshold, innermost, start, add-box, result, lines, Passes, Some, hasHeight, madeOf, yOf, sums, Applies, unknown-code, not-finite, out-of-limits, width-fixed, boxes-full, too-far, sums-too-far, bands-full, none-to-add-to, none-to-ask, no-room, Lowest}
+use Rattle.refusals.specs.Numbered.{Asked, handed, width, active, box, content, bfc, threshold, innermost, start, add-box, result, lines, Passes, hasHeight, madeOf, yOf, sums, Applies, unknown-code, not-finite, out-of-limits, width-fixed, boxes-full, too-far, sums-too-far, bands-full, none-to-add-to, none-to-ask, no-room, Lowest}
 use Rattle.refusals.specs.Answered.{saidReturned, refusal, Refuses}
 use Rattle.refusals.proofs.Decimals.{one-number}
-use Rattle.refusals.proofs.Three.{Fails, allKnown, plus, and-also, and-last, not-passed, not-below, not-above}
-use Rattle.refusals.proofs.Outcome.{from-1, Says, Outcome, none, one, exactly, Free, gap, tested, checked}
+use Rattle.refusals.proofs.Outcome.{Says, Outcome, none, one, exactly, Free, gap, tested}
+use Rattle.refusals.proofs.Three.{allKnown, from-1, checked}
 
 -- ---- answers
 says : (n : ℕ) → Says (λ m. refused n ≡ refused m) n

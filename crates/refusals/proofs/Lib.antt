@@ -1,5 +1,5 @@
 pub mod Decimals
-pub mod Three
 pub mod Outcome
+pub mod Three
 pub mod Exactly
 pub mod Printed

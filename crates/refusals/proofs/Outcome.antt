@@ -1,20 +1,14 @@
--- A call whose tests are asked one after the other, lower numbers first, answers the lowest number that applies: what one test adds to that, and the check of codes and numbers.
+-- A call whose tests are asked one after the other, lower numbers first, answers the lowest number that applies: what one test adds to that.
 use Prim.Native.Nat.{ℕ, suc, _<_}
 use native.Mathlib.Omega.{arith}
 use native.Mathlib.Nat.{eq-or-lt-of-le}
 use mathlib.Core.Path.{_≡_, sym, subst}
 use mathlib.Core.Logic.{_⊎_, inl, inr, _↔_}
 use mathlib.Core.Bool.{Bool, cond}
-use mathlib.Core.List.{map}
 use lib.Dec.{T}
 use Rattle.f32_laws.proofs.Tests.{both}
-use Rattle.float.specs.declared.Refusal.{Refusal}
-use Rattle.float.specs.declared.refuse.Check.{Check}
-use Rattle.float.specs.Refuse.{numberOf, checkOf}
-use Rattle.float.specs.Page.{Page}
-use Rattle.tape.specs.declared.step.Calculator.{Calculator}
-use Rattle.refusals.specs.Numbered.{Asked, handed, Unknown, NotFinite, Outside, Some, Applies, unknown-code, not-finite, out-of-limits, Lowest}
-use Rattle.refusals.proofs.Three.{Three, less, same, more, three, Fails, allKnown, known-all, plus, finite-all, inside-all}
+use Rattle.demands.proofs.Tested.{Three, less, same, more, three, Fails}
+use Rattle.refusals.specs.Numbered.{Lowest}
 
 -- R m: refusal m is answered; it is n alone
 pub record Says (R : ℕ → Type 0) (n : ℕ) : Type 0 where
@@ -49,28 +43,3 @@ gap {A} n h f m l a = go (eq-or-lt-of-le l)
 -- a test that fails exactly where n applies
 pub tested : {B : Type 0} (R : B → ℕ → Type 0) {A : ℕ → Type 0} {X : Type 0} {b : Bool} {x y : B} (n : ℕ) → Fails X b → (X → A n) → (A n → X) → Free A n → Says (R y) n → (T b → Free A (suc n) → Outcome (R x) A) → Outcome (R (cond b x y)) A
 tested R {A} {X} {b} {x} {y} n t i o f s k = both (λ z. Outcome (R z) A) b {x = x} {y = y} (λ h. k h (gap {A = A} n (λ a. t .passed h (o a)) f)) (λ h. one n s (i (t .failed h), f))
-
--- rows 1 to 3, of every call
-module _ (p : Page) (q : Calculator) (a : Asked) where
-  row-1 : Applies p q a 1 → Some Unknown (handed a .codes)
-  row-1 (unknown-code h) = h
-
-  row-2 : Applies p q a 2 → Some NotFinite (handed a .numbers)
-  row-2 (not-finite h) = h
-
-  row-3 : Applies p q a 3 → Some Outside (handed a .numbers)
-  row-3 (out-of-limits h) = h
-
-  row-0 : ¬ Applies p q a 0
-  row-0 h = elim h [ ]
-
-  pub from-1 : Free (Applies p q a) 1
-  from-1 = gap 0 row-0 (λ m l. absurd (omega arith))
-
-  pub checked : (R : Check → ℕ → Type 0) → ((n : Refusal) → Says (R (Check.Refused n)) (numberOf n)) → (Free (Applies p q a) 4 → Outcome (R Check.Passed) (Applies p q a)) → Outcome (R (checkOf (allKnown (handed a .codes)) (map plus (handed a .numbers)))) (Applies p q a)
-  unfolding checkOf
-  checked R s k =
-      tested R 1 (known-all (handed a .codes)) unknown-code row-1 from-1 (s Refusal.UnknownCode)
-      (λ t f. tested R 2 (finite-all (handed a .numbers)) not-finite row-2 f (s Refusal.NotFinite)
-      (λ t f. tested R 3 (inside-all (handed a .numbers) t) out-of-limits row-3 f (s Refusal.OutOfLimits)
-      (λ t f. k f)))

@@ -21,13 +21,14 @@ use Rattle.float.specs.Page.{pageOf, front}
 use Rattle.float.specs.Place.{placeOf, widthOf}
 use Rattle.float.specs.Slot.{content as contentOf, bfc as bfcOf}
 use Rattle.float.specs.Calculator.{addOf}
+use Rattle.demands.specs.Runs.{Some}
 use Rattle.tape.specs.declared.record.Record.{Record}
 use Rattle.tape.specs.declared.step.Calculator.{Calculator}
 use Rattle.tape.specs.declared.step.State.{State}
 use Rattle.tape.specs.Bytes.{row}
 use Rattle.tape.specs.Lines.{refusedLine, doneLine, placeLine, contentLine, bfcLine}
 use Rattle.tape.specs.Tape.{startOf, started, addTo, stepOf, linesOf, returned, filled}
-use Rattle.refusals.specs.Numbered.{Asked, width, box, content, bfc, start, add-box, result, Some, Applies, Lowest}
+use Rattle.refusals.specs.Numbered.{Asked, width, box, content, bfc, start, add-box, result, Applies, Lowest}
 use Rattle.refusals.specs.Answered.{saidReturned, refusal, Refuses, asked}
 use Rattle.refusals.proofs.Decimals.{one-number}
 use Rattle.refusals.proofs.Exactly.{refused-exactly-when}

@@ -1,23 +1,25 @@
 -- The paper's table "Numbered no", row by row, over every call that can be refused. Definitions only.
 use Prim.Native.Nat.{ℕ, _≤_, _<_}
 use mathlib.Core.Path.{_≡_}
-use mathlib.Core.Logic.{_⊎_, _≢_}
-use mathlib.Core.Bool.{Bool, true, false, not, cond}
+use mathlib.Core.Logic.{_≢_}
+use mathlib.Core.Bool.{Bool, not, cond}
 use mathlib.Core.List.{List, [], _∷_}
 use lib.Dec.{T}
-use lib.Ieee.{Float, nan, inf, binary32, add, lt, le, eq}
+use lib.Ieee.{Float, binary32, add, le, eq}
 use lib.ListN.{length}
 use Rattle.f32_laws.specs.Numbers.{zero+}
 use Rattle.float.specs.declared.AvailableSpace.{AvailableSpace}
 use Rattle.float.specs.declared.BandNumber.{BandNumber}
 use Rattle.float.specs.declared.FloatDirection.{FloatDirection}
 use Rattle.float.specs.declared.FloatIntrinsicWidthCalculator.{FloatIntrinsicWidthCalculator}
-use Rattle.float.specs.Numbers.{most, least, farthest, plusZero, Given, size, offset, value}
+use Rattle.float.specs.Numbers.{farthest, plusZero, Given, size, offset}
 use Rattle.float.specs.Refuse.{sideOf, clearOf}
 use Rattle.float.specs.Page.{Page}
 use Rattle.float.specs.Place.{Call, cleaned, askOf, spotOf, Made, make}
 use Rattle.float.specs.Slot.{ContentCall, BfcCall}
 use Rattle.float.specs.Calculator.{zeroed, plusOn}
+use Rattle.demands.specs.Runs.{Some}
+use Rattle.demands.specs.Rows.{NotFinite, Outside}
 use Rattle.tape.specs.declared.record.Mode.{Mode}
 use Rattle.tape.specs.declared.step.Calculator.{Calculator}
 use Rattle.tape.specs.Tape.{linesOf}
@@ -57,27 +59,13 @@ handed (add-box w s k) = record { codes = (s, 2) ∷ (k, 4) ∷ []; numbers = si
 handed result = record { codes = []; numbers = [] }
 handed (lines t a) = record { codes = []; numbers = [] }
 
--- a code past the known ones
+-- a code past the known ones; what is said of a number stands in demands, Rows
 abbrev pub Unknown : ℕ × ℕ → Type 0
 Unknown c = c .1 ≤ c .0
-
--- NaN or an infinity
-abbrev pub NotFinite : Given → Type 0
-NotFinite g = (value g ≡ nan) ⊎ (value g ≡ inf true) ⊎ (value g ≡ inf false)
-
--- below 0 or -65,536, or above 65,536
-abbrev pub Outside : Given → Type 0
-Outside (size x) = T (lt x zero+) ⊎ T (lt most x)
-Outside (offset x) = T (lt x least) ⊎ T (lt most x)
 
 -- x is not at most 131,072
 abbrev pub Passes : Float → Type 0
 Passes x = T (not (le x farthest))
-
--- P holds of one in the list
-abbrev pub Some : {A : Type 0} → (A → Type 0) → List A → Type 0
-Some P [] = ⊥
-Some P (x ∷ xs) = P x ⊎ Some P xs
 
 -- rule 5 is for a box of no height: it needs no band and keeps y as the search found it
 abbrev pub hasHeight : Call → Bool

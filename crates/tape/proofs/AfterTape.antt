@@ -84,14 +84,14 @@ module _ (t : List ℕ) {n : ℕ} (h : (n ≤ min (length t) 65536) × (length t
       go (no l) = nothing (omega arith)
 
   -- what was run leaves the page that the whole tape leaves
-  pub left-same : {k : ℕ} {r : Ended} → Left (pageOf (pageAfter (take n t))) k r → Left (pageOf (pageAfter t)) k r
-  left-same {k} {r} = subst (λ (p : FloatContext). Left (pageOf p) k r) same-page
+  pub left-same : {k : ℕ} {o : List Float} {r : Ended} → Left (pageOf (pageAfter (take n t))) k o r → Left (pageOf (pageAfter t)) k o r
+  left-same {k} {o} {r} = subst (λ (p : FloatContext). Left (pageOf p) k o r) same-page
 
 -- the band that was picked is asked, on the page that was left
-pub box-after : (t : List ℕ) (s : ℕ) {k : ℕ} {r : Ended} {x : Innermost} → Left (pageOf (pageAfter t)) k r → ((p : Page) (bs : List Segment) → length bs ≡ 96 → p .bands ≡ take (r .count) bs → r .band ≡ getD bs (min k 95) none → x ≡ innermost p (BandNumber.At k) s) → returnedBox x ≡ innermostAfter t k s
+pub box-after : (t : List ℕ) (s : ℕ) {k : ℕ} {o : List Float} {r : Ended} {x : Innermost} → Left (pageOf (pageAfter t)) k o r → ((p : Page) (bs : List Segment) → length bs ≡ 96 → p .bands ≡ take (r .count) bs → r .band ≡ getD bs (min k 95) none → x ≡ innermost p (BandNumber.At k) s) → returnedBox x ≡ innermostAfter t k s
 unfolding innermostAfter
 box-after t s e f = ap returnedBox (f (pageOf (pageAfter t)) (e .bands) (e .long) (e .live) (e .picked))
 
-pub depth-after : (t : List ℕ) {k : ℕ} {r : Ended} → Left (pageOf (pageAfter t)) k r → returnedHeight (r .depth) ≡ depthAfter t
+pub depth-after : (t : List ℕ) {k : ℕ} {o : List Float} {r : Ended} → Left (pageOf (pageAfter t)) k o r → returnedHeight (r .depth) ≡ depthAfter t
 unfolding depthAfter depthOf
 depth-after t e = ap returnedHeight (e .depth)

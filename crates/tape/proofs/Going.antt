@@ -5,6 +5,7 @@ use mathlib.Core.List.{List, [], _∷_, _++_, append-nil, append-assoc}
 use native.Mathlib.Numerals.{add-one}
 use native.Mathlib.Omega.{arith}
 use borrow.Author.Tests.{le-leb}
+use lib.Ieee.{Float}
 use lib.ListN.{length, take, drop, getD, length-drop, drop-of-length-le}
 use lib.Seq.{drop-cons, drop-drop, take-all}
 use Rattle.float.specs.declared.Head.{Head}
@@ -13,11 +14,14 @@ use Rattle.float.specs.declared.Segment.{Segment}
 use Rattle.float.specs.Bands.{none}
 use Rattle.float.specs.Head.{pageWith}
 use Rattle.float.specs.Page.{Page, pageOf}
+use Rattle.float.proofs.Front.{take-min}
+use Rattle.words.specs.Laid.{laid}
 use Rattle.tape.specs.declared.step.Calculator.{Calculator}
 use Rattle.tape.specs.declared.step.State.{State}
 use Rattle.tape.specs.Put.{Put, Turned, Ends, freshHead, stateOf}
 use Rattle.tape.specs.Tape.{run, linesOf, runs, pageAfter}
 use Rattle.tape.proofs.Held.{fresh-same}
+use Rattle.tape.proofs.Laying.{Laying}
 use Rattle.tape.proofs.Putting.{then, nothing}
 use Rattle.tape.proofs.Running.{run-none, runs-none}
 use Rattle.tape.proofs.Same.{run-same, runs-same}
@@ -95,22 +99,35 @@ module _ (t a₀ : List ℕ) {a b : List ℕ} {s s' : State} {i n m r : ℕ} (g 
     put = then (g .put) (q .put);
   }
 
-pub going-done : (t a₀ : List ℕ) {a : List ℕ} {h : Head} {bs : List Segment} {xs : List PlacedFloatedBox} {c : Calculator} {i n k p : ℕ} → Going t a₀ a (stateOf (pageWith h bs xs) c) i n → length t ≤ i → length t ≤ 65536 → length bs ≡ 96 → p ≡ min k 95 → Ends t a₀ a k (record { end = n; count = h .count; band = getD bs p none; depth = h .depth })
+-- at the end: m bands are live, and n of them were to be laid
+pub going-done : (t a₀ : List ℕ) {a : List ℕ} {o₀ o : List Float} {h : Head} {bs : List Segment} {xs : List PlacedFloatedBox} {c : Calculator} {i n k p m v q : ℕ} → Going t a₀ a (stateOf (pageWith h bs xs) c) i n → length t ≤ i → length t ≤ 65536 → length bs ≡ 96 → p ≡ min k 95
+    → m ≡ min (h .count) 96
+    → (v ≤ m) × (384 ≤ length o₀ → v ≡ m)
+    → Laying bs v o₀ o q
+    → v ≤ q
+    → Ends t a₀ a k o (record { end = n; width = h .width; count = m; band = getD bs p none; depth = h .depth })
 unfolding pageOf
-going-done t a₀ {a} {h} {bs} {xs} {c} {i} {n} {k} {p} g o l w e =
+going-done t a₀ {a} {o₀} {o} {h} {bs} {xs} {c} {i} {n} {k} {p} {m} {v} {q} g z l w e f u y d =
     let s = stateOf (pageWith h bs xs) c in
-    let left-page : pageOf (pageAfter t) ≡ pageOf (s .page) = sym (g .ends) ∙ ap (λ (x : State). pageOf (x .page)) (ap (λ (x : List ℕ). runs (g .fuel) x s) (drop-of-length-le t o) ∙ runs-none (g .fuel) s) in
-    let f : linesOf t ≡ g .done = g .whole ∙ ap (λ (x : List ℕ). g .done ++ run (g .fuel) i x s) (drop-of-length-le t o) ∙ ap (λ (x : List ℕ). g .done ++ x) (run-none (g .fuel) i s) ∙ append-nil (g .done) in
+    let left-page : pageOf (pageAfter t) ≡ pageOf (s .page) = sym (g .ends) ∙ ap (λ (x : State). pageOf (x .page)) (ap (λ (x : List ℕ). runs (g .fuel) x s) (drop-of-length-le t z) ∙ runs-none (g .fuel) s) in
+    let lines : linesOf t ≡ g .done = g .whole ∙ ap (λ (x : List ℕ). g .done ++ run (g .fuel) i x s) (drop-of-length-le t z) ∙ ap (λ (x : List ℕ). g .done ++ x) (run-none (g .fuel) i s) ∙ append-nil (g .done) in
+    let live : pageOf (pageAfter t) .bands ≡ take m bs = ap (λ (x : Page). x .bands) left-page ∙ sym (ap (λ (x : ℕ). take x bs) f ∙ take-min bs (h .count) 96 w) in
     record {
       answered = record {
         few = let x = g .few in let y = g .inside in omega arith;
-        put = subst⁻¹ (λ (x : List ℕ). Put a₀ 0 x a n) f (g .put);
+        put = subst⁻¹ (λ (x : List ℕ). Put a₀ 0 x a n) lines (g .put);
       };
       left = record {
         bands = bs;
         long = w;
-        live = ap (λ (q : Page). q .bands) left-page;
+        width = sym (ap (λ (x : Page). x .width) left-page);
+        few = omega arith;
+        live = live;
         picked = ap (λ (x : ℕ). getD bs x none) e;
-        depth = sym (ap (λ (q : Page). q .depth) left-page);
+        depth = sym (ap (λ (x : Page). x .depth) left-page);
+        laid = λ r.
+            let long : 384 ≤ length o₀ = let x = y .same in omega arith in
+            let all : q ≡ m = let x = u .1 long in let b = y .inside in omega arith in
+            ap (λ (x : ℕ). take (4 * x) o) (sym all) ∙ y .lays long .front ∙ ap (λ (x : ℕ). laid (take x bs)) all ∙ ap laid (sym live);
       };
     }

@@ -1,7 +1,7 @@
--- How long a line is: at most eleven bytes for each byte of its record.
+-- How long a line is: at most eleven bytes for each byte of its record; and the lines that are counted before they are put.
 use Prim.Native.Nat.{ℕ, zero, suc, _+_, _≤_, _<_}
 use mathlib.Core.Logic.{_⊎_, inl, inr}
-use mathlib.Core.Path.{_≡_}
+use mathlib.Core.Path.{_≡_, refl, ap}
 use mathlib.Core.List.{List, [], _∷_}
 use native.Mathlib.Omega.{arith}
 use lib.Ieee.{Float, binary32, toBits}
@@ -15,7 +15,9 @@ use Rattle.tape.specs.declared.step.State.{State}
 use Rattle.tape.specs.Bytes.{float, decimal, digits, decimals, fields, row}
 use Rattle.tape.specs.Lines.{refusedLine, doneLine}
 use Rattle.tape.specs.Record.{bodyLen, recordOf}
+use Rattle.words.specs.declared.Line.{Line}
 use Rattle.tape.specs.Tape.{started, addTo, resultLine, stepOf}
+use Rattle.tape.specs.Text.{setLine}
 use Rattle.tape.proofs.Digits.{length-digits, at-most}
 
 -- a letter and one field
@@ -72,3 +74,36 @@ by-kind s (suc (suc (suc (suc (suc (suc (suc (suc k)))))))) b = inr (omega arith
 pub length-offset : (i : ℕ) → i < 65536 → length (row 84 (decimal i ∷ [])) ≤ 11
 unfolding decimal
 length-offset i h = let e = one-field 84 (decimal i) in let d = length-digits 10 (decimals i i) i in let m = at-most 4 i i (omega arith) in omega arith
+
+-- ---- lines that are counted first
+
+more-fields : (f : List ℕ) (fs : List (List ℕ)) → length (fields (f ∷ fs)) ≡ suc (length f + length (fields fs))
+unfolding fields
+more-fields f fs = ap suc (length-append f (fields fs))
+
+no-field : length (fields []) ≡ 1
+unfolding fields
+no-field = refl
+
+length-float : (x : Float) → length (float x) ≡ 8
+unfolding float
+length-float x = length-digits 16 8 (toBits binary32 x)
+
+length-decimal : (n : ℕ) → length (decimal n) ≡ decimals n n
+unfolding decimal
+length-decimal n = length-digits 10 (decimals n n) n
+
+pub length-letter : (c : ℕ) → length (row c []) ≡ 2
+length-letter c = ap suc no-field
+
+pub length-number : (c n : ℕ) → length (row c (decimal n ∷ [])) ≡ 3 + decimals n n
+length-number c n = let e = one-field c (decimal n) in let d = length-decimal n in omega arith
+
+pub length-set : (x : Line) → length (setLine x) ≡ 22 + decimals (x .first) (x .first) + decimals (x .count) (x .count)
+unfolding setLine
+length-set x =
+    let a = more-fields (float (x .x)) (float (x .y) ∷ decimal (x .first) ∷ decimal (x .count) ∷ []) in
+    let b = more-fields (float (x .y)) (decimal (x .first) ∷ decimal (x .count) ∷ []) in
+    let c = more-fields (decimal (x .first)) (decimal (x .count) ∷ []) in
+    let d = more-fields (decimal (x .count)) [] in
+    omega (arith, no-field, length-float (x .x), length-float (x .y), length-decimal (x .first), length-decimal (x .count))

@@ -6,7 +6,12 @@ pub mod Same
 pub mod Held
 pub mod Stepping
 pub mod Running
+pub mod Laying
 pub mod Going
 pub mod Room
 pub mod AfterTape
 pub mod Lengths
+pub mod Stopping
+pub mod Texts
+pub mod Printing
+pub mod AfterText

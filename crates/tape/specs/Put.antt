@@ -3,7 +3,8 @@ use Prim.Native.Nat.{ℕ, suc, _+_, _-_, _*_, min, _≤_, _<_}
 use mathlib.Core.Logic.{_⊎_}
 use mathlib.Core.Path.{_≡_}
 use mathlib.Core.Bool.{Bool, true, false}
-use mathlib.Core.List.{List, _∷_, _++_}
+use mathlib.Core.List.{List, [], _∷_, _++_}
+use lib.Ieee.{Float}
 use lib.ListN.{length, take, drop, getD}
 use Rattle.f32_laws.specs.Numbers.{zero+}
 use Rattle.float.specs.declared.Bottom.{Bottom}
@@ -27,8 +28,10 @@ use Rattle.float.specs.Quest.{contentQuest, bfcQuest}
 use Rattle.tape.specs.declared.run.Ended.{Ended}
 use Rattle.tape.specs.declared.step.Calculator.{Calculator}
 use Rattle.tape.specs.declared.step.State.{State}
+use Rattle.words.specs.Laid.{laid}
+use Rattle.tape.specs.Bytes.{decimal, row}
 use Rattle.tape.specs.Record.{placeRecord}
-use Rattle.tape.specs.Tape.{Told, run, linesOf, runs, pageAfter}
+use Rattle.tape.specs.Tape.{Told, run, linesOf, brokenLine, runs, pageAfter}
 
 -- no line ends past this: eleven bytes for each byte of the longest tape, and a line
 abbrev pub reach : ℕ
@@ -137,18 +140,27 @@ pub record Answered (t a b : List ℕ) (r : ℕ) : Type 0 where
   pub few : r ≤ 11 * min (length t) 65536
   pub put : Put a 0 (linesOf t) b r
 
--- the page p was left: r has the number of its bands, what stands at the place k of their array, or at the last, and its depth
-pub record Left (p : Page) (k : ℕ) (r : Ended) : Type 0 where
+-- the page p was left: r has its width, the number of its bands, what stands at the place k of their array, or at the last, and its depth; its bands are laid in o, if that is long enough for all that a page can have
+pub record Left (p : Page) (k : ℕ) (o : List Float) (r : Ended) : Type 0 where
   pub bands : List Segment
   pub long : length bands ≡ 96
+  pub width : r .width ≡ p .width
+  pub few : r .count ≤ 96
   pub live : p .bands ≡ take (r .count) bands
   pub picked : r .band ≡ getD bands (min k 95) none
   pub depth : r .depth ≡ p .depth
+  pub laid : 384 ≤ length o → take (4 * r .count) o ≡ laid (p .bands)
 
 -- both, of one run: r has the end of the lines
-pub record Ends (t a b : List ℕ) (k : ℕ) (r : Ended) : Type 0 where
+pub record Ends (t a b : List ℕ) (k : ℕ) (o : List Float) (r : Ended) : Type 0 where
   pub answered : Answered t a b (r .end)
-  pub left : Left (pageOf (pageAfter t)) k r
+  pub left : Left (pageOf (pageAfter t)) k o r
+
+-- the tape t stops at r, or is whole and ends there
+pub record Stops (t : List ℕ) (r : ℕ) : Type 0 where
+  pub inside : r ≤ length t
+  pub whole : length t ≤ r → brokenLine t ≡ []
+  pub stopped : r < length t → brokenLine t ≡ row 84 (decimal r ∷ [])
 
 -- the room a takes the lines of the tape t: they are known to fit, or there are eleven bytes for each byte of the tape
 abbrev pub Roomy : List ℕ → List ℕ → Type 0

@@ -106,6 +106,15 @@ run (suc f) i (k ∷ body) s =
 unfoldable pub linesOf : List ℕ → List ℕ
 linesOf t = elim (leb (length t) 65536) [ true ↦ run (length t) 0 t freshState | false ↦ row 76 [] ]
 
+-- of such a part the line T of the first record that is broken, or nothing
+unfoldable pub broken : ℕ → ℕ → List ℕ → List ℕ
+broken zero i t = []
+broken (suc f) i [] = []
+broken (suc f) i (k ∷ body) = elim (readOf k body) [ Read.Whole q ↦ broken f (suc (i + bodyLen k)) (drop (bodyLen k) body) | Read.Broken ↦ row 84 (decimal i ∷ []) ]
+
+abbrev pub brokenLine : List ℕ → List ℕ
+brokenLine t = broken (length t) 0 t
+
 -- what stands after the records of a tape, up to the first that is broken; the fuel lasts as in `run`
 unfoldable pub runs : ℕ → List ℕ → State → State
 runs zero t s = s

@@ -48,19 +48,20 @@ fn run_of(n: usize) -> usize
 }
 
 // What a tape leaves. It is run in no room: its lines are not asked for.
-fn left_by(tape: &[u8], pick: usize) -> Ended
-    ensures { λ r. ⌜ Left (pageOf (pageAfter (now (tape .entry)))) pick r ⌝ }
+pub fn left_by(tape: &[u8], pick: usize, out: &mut [f32]) -> Ended
+    ensures { λ r. ⌜ Left (pageOf (pageAfter (now (tape .entry)))) pick (now (out .exit)) r ⌝ }
 {
     let n = run_of(tape.len());
     let mut none = [0u8; 1];
-    records(&tape[..n], &mut none[..0], pick)
+    records(&tape[..n], &mut none[..0], pick, out)
 }
 
 // The number of the box, -100 where none stands there, or -1 for an unknown side.
 pub fn innermost(tape: &[u8], band: usize, side: u8) -> i64
     ensures { λ r. ⌜ r ≡ innermostAfter (now (tape .entry)) band side ⌝ }
 {
-    let e = left_by(tape, band);
+    let mut none = [0.0; 1];
+    let e = left_by(tape, band, &mut none[..0]);
     let picked = e.band;
     returned_box(touch::innermost_in(e.count, band, picked, side))
 }
@@ -69,7 +70,8 @@ pub fn innermost(tape: &[u8], band: usize, side: u8) -> i64
 pub fn depth(tape: &[u8]) -> i64
     ensures { λ r. ⌜ r ≡ depthAfter (now (tape .entry)) ⌝ }
 {
-    let e = left_by(tape, 0);
+    let mut none = [0.0; 1];
+    let e = left_by(tape, 0, &mut none[..0]);
     let deep = e.depth;
     returned_height(deep)
 }

@@ -5,10 +5,12 @@ mod line;
 mod record;
 mod run;
 mod step;
+mod text;
 
 pub use crate::after::depth;
 pub use crate::after::innermost;
 use crate::run::lines;
+pub use crate::text::set_words;
 ghost use mathlib.Core.Path.{_≡_};
 ghost use Rattle.tape.specs.Put.{Roomy};
 ghost use Rattle.tape.specs.Tape.{linesOf, returned, filled};

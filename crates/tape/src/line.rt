@@ -7,13 +7,16 @@ use float::ContentAnswer;
 use float::Done;
 use float::PlaceAnswer;
 use float::Refusal;
+use words::TextRefusal;
 ghost use mathlib.Core.Path.{_≡_};
 ghost use mathlib.Core.List.{[], _∷_};
 ghost use Prim.Native.Nat.{_+_, _<_, _≤_};
 ghost use Rattle.float.specs.Refuse.{numberOf};
 ghost use Rattle.tape.specs.Bytes.{digit as digitOf, digits, float, decimals, decimal, row};
 ghost use Rattle.tape.specs.Lines.{refusedLine, doneLine, placeLine, band as bandText, contentLine, bfcLine};
+ghost use Rattle.words.specs.Text.{numberOf as textNumberOf};
 ghost use Rattle.tape.specs.Put.{Put, Line, reach};
+ghost use Rattle.tape.specs.Text.{setLine};
 
 const DIGITS: [u8; 16] = *b"0123456789ABCDEF";
 
@@ -54,7 +57,7 @@ fn put_digits(room: &mut [u8], at: usize, base: usize, k: usize, n: usize) -> us
     end
 }
 
-fn count_decimals(n: usize) -> usize
+pub fn count_decimals(n: usize) -> usize
     ensures { λ r. ⌜ (r ≡ decimals n n) × (r ≤ 20) ⌝ }
 {
     let mut m = n;
@@ -207,4 +210,28 @@ pub fn bfc_line(room: &mut [u8], at: usize, answer: BfcAnswer) -> usize
         }
         BfcAnswer::Refused(n) => refused_line(room, at, n),
     }
+}
+
+pub fn text_number_of(n: TextRefusal) -> usize
+    ensures { λ r. ⌜ r ≡ textNumberOf n ⌝ }
+{
+    match n {
+        TextRefusal::NotFinite => 2,
+        TextRefusal::OutOfLimits => 3,
+        TextRefusal::TooFar => 6,
+        TextRefusal::TooManyWords => 9,
+        TextRefusal::NoLineHeight => 10,
+    }
+}
+
+pub fn set_line(room: &mut [u8], at: usize, l: words::Line) -> usize
+    requires { ⌜ at + 64 ≤ reach ⌝ }
+    ensures { λ r. ⌜ Line (now (room .entry)) at (setLine l) (now (room .exit)) r ⌝ }
+{
+    let a = put(room, at, b'L');
+    let b = put_float(room, a, l.x);
+    let c = put_float(room, b, l.y);
+    let d = put_number(room, c, l.first as usize);
+    let e = put_number(room, d, l.count as usize);
+    put(room, e, b'\n')
 }

@@ -18,6 +18,7 @@ use float::Head;
 use float::Refusal;
 use float::Segment;
 use float::hold;
+use words::lay;
 ghost use mathlib.Core.Bool.{false};
 ghost use mathlib.Core.List.{List};
 ghost use mathlib.Core.Path.{_≡_};
@@ -97,17 +98,33 @@ fn last_of(n: usize) -> usize
     if n == 0 { 0 } else { n - 1 }
 }
 
-// What a run leaves: where its lines end, how many bands the page has, the band at the place that was asked for, and how deep the page is.
+// How many of n places of the array hold bands.
+fn live_of(n: usize) -> usize
+    ensures { λ r. ⌜ r ≡ min n 96 ⌝ }
+{
+    if n < 96 { n } else { 96 }
+}
+
+// How many of n bands are laid in a room for m numbers: none in one that is too short for a full page.
+fn laid_of(n: usize, m: usize) -> usize
+    ensures { λ r. ⌜ (r ≤ n) × (384 ≤ m → r ≡ n) ⌝ }
+{
+    if m < 384 { 0 } else { n }
+}
+
+// What a run leaves: where its lines end, how wide the page is, how many bands it has, the band at the place that was asked for, and how deep it is.
 pub struct Ended {
     pub end: usize,
+    pub width: f32,
     pub count: usize,
     pub band: Segment,
     pub depth: Bottom,
 }
 
-pub fn records(tape: &[u8], answers: &mut [u8], pick: usize) -> Ended
+// The bands are laid in out, if it is long enough for a full page: who asks for none lends an empty part.
+pub fn records(tape: &[u8], answers: &mut [u8], pick: usize, out: &mut [f32]) -> Ended
     requires { ⌜ length (now tape) ≤ 65536 ⌝ }
-    ensures { λ r. ⌜ Ends (now (tape .entry)) (now (answers .entry)) (now (answers .exit)) pick r ⌝ }
+    ensures { λ r. ⌜ Ends (now (tape .entry)) (now (answers .entry)) (now (answers .exit)) pick (now (out .exit)) r ⌝ }
 {
     let band = no_band();
     let b = no_box();
@@ -201,11 +218,20 @@ pub fn records(tape: &[u8], answers: &mut [u8], pick: usize) -> Ended
         to = t.end;
         at = t.next;
     }
+    let count = live_of(head.count);
+    let n = laid_of(count, out.len());
+    let mut k = 0;
+    while k < n {
+        let b = bands[k];
+        lay(out, k, b);
+        k += 1;
+    }
     let picked = bands[placed(pick)];
     let depth = head.depth;
     Ended {
         end: to,
-        count: head.count,
+        width: head.width,
+        count: count,
         band: picked,
         depth: depth,
     }
@@ -216,7 +242,8 @@ pub fn lines(tape: &[u8], answers: &mut [u8]) -> usize
     ensures { λ r. ⌜ Answered (now (tape .entry)) (now (answers .entry)) (now (answers .exit)) r ⌝ }
 {
     if tape.len() <= 65536 {
-        return records(tape, answers, 0).end;
+        let mut none = [0.0; 1];
+        return records(tape, answers, 0, &mut none[..0]).end;
     }
     letter_line(answers, 0, b'L')
 }

@@ -30,8 +30,8 @@ use Rattle.tape.specs.declared.step.State.{State}
 use Rattle.tape.specs.Bytes.{float, decimal, row}
 use Rattle.tape.specs.Record.{bodyLen, placeRecord, readOf}
 use Rattle.tape.specs.Lines.{doneLine, placeLine, refusedLine}
-use Rattle.tape.specs.Tape.{freshState, started as startedBy, addTo, stepOf, run as runTape, linesOf, runs, pageAfter, returnedBox}
-use Rattle.tied.specs.Acts.{callsIn, records, recordsOf, broken, brokenLine, stateAfter, linesFrom, RecordAt, lineAt, PLine, RLine, stateAt, runAt, callsNext, wholeRun}
+use Rattle.tape.specs.Tape.{freshState, started as startedBy, addTo, stepOf, run as runTape, linesOf, broken, brokenLine, runs, pageAfter, returnedBox}
+use Rattle.tied.specs.Acts.{callsIn, records, recordsOf, stateAfter, linesFrom, RecordAt, lineAt, PLine, RLine, stateAt, runAt, callsNext, wholeRun}
 
 -- ---- the page
 

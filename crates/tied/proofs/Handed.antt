@@ -36,7 +36,7 @@ module _ {A : Type 0} (P : A → Type 0) where
   each-made f (x ∷ l) h = each-append (f x) (flatMap f l) (h .0) (each-made f l (h .1))
 
 -- ---- f32
-number-f32 : (b : List ℕ) (i : ℕ) → F32 (f32At b i)
+pub number-f32 : (b : List ℕ) (i : ℕ) → F32 (f32At b i)
 unfolding f32At
 number-f32 b i = ofBits-fits binary32 _
 

@@ -1,5 +1,5 @@
 -- A tape as a sequence of calls: its records, the calls that they make, the line of each, and what stands after the first n. Definitions only.
-use Prim.Native.Nat.{ℕ, zero, suc, _+_, _*_}
+use Prim.Native.Nat.{ℕ, zero, suc, _*_}
 use mathlib.Core.Path.{_≡_}
 use mathlib.Core.Option.{some}
 use mathlib.Core.List.{List, [], _∷_, foldl, flatMap}
@@ -8,7 +8,6 @@ use Rattle.demands.specs.Runs.{Act, newPage, width, box, Run, after}
 use Rattle.tape.specs.declared.record.Read.{Read}
 use Rattle.tape.specs.declared.record.Record.{Record}
 use Rattle.tape.specs.declared.step.State.{State}
-use Rattle.tape.specs.Bytes.{decimal, row}
 use Rattle.tape.specs.Record.{bodyLen, readOf}
 use Rattle.tape.specs.Tape.{freshState, stepOf}
 
@@ -33,15 +32,6 @@ records (suc f) (k ∷ body) = elim (readOf k body) [ Read.Whole q ↦ q ∷ rec
 
 abbrev pub recordsOf : List ℕ → List Record
 recordsOf t = records (length t) t
-
--- the line T of the first that is broken, or nothing; i is the offset at which this part of the tape begins
-unfoldable pub broken : ℕ → ℕ → List ℕ → List ℕ
-broken zero i t = []
-broken (suc f) i [] = []
-broken (suc f) i (k ∷ body) = elim (readOf k body) [ Read.Whole q ↦ broken f (suc (i + bodyLen k)) (drop (bodyLen k) body) | Read.Broken ↦ row 84 (decimal i ∷ []) ]
-
-abbrev pub brokenLine : List ℕ → List ℕ
-brokenLine t = broken (length t) 0 t
 
 -- the state after records, one after the other, and the line of each
 abbrev pub stateAfter : State → List Record → State

@@ -5,6 +5,7 @@
 #[cfg(all(has_taffy, has_panel))]
 mod run {
     use host::archive::{self, Runner};
+    use host::call::WORDS;
     use host::count::{self, Counts};
     use host::rows::{self, Row, Run, SIZES};
     use host::tape::bytes;
@@ -38,7 +39,7 @@ mod run {
                 assert!(lines.is_empty() || run(tape, &mut room[1..]) == -13, "in a room a byte too short");
                 job::without_steps(&lines)
             });
-            assert!(by_archive == by_crate, "archive and crate differ on\n{}", host::tape::text(tape));
+            assert!(by_archive == by_crate, "{}: archive and crate differ on\n{}", row.name, host::tape::text(tape));
         }
     }
 
@@ -152,6 +153,13 @@ mod run {
         println!("| deepest stack of `bulameki_innermost` over them | {} |", grouped(asked.unwrap_or(0)));
         let asked = answers::sample().iter().map(|(tape, _)| archive::depth_stack(tape)).max();
         println!("| deepest stack of `bulameki_depth` over them | {} |", grouped(asked.unwrap_or(0)));
+        for boxes in [0, SIZES[3]] {
+            let deepest = archive::set_words_stack(&bytes(&rows::page(0, boxes)), &rows::text(0, WORDS));
+            println!(
+                "| deepest stack of `bulameki_set_words`, {WORDS} words on a page of {boxes} | {} |",
+                grouped(deepest)
+            );
+        }
     }
 
     fn text(rows: &[Row]) {

@@ -22,12 +22,14 @@ fn main() {
 #[cfg(all(has_taffy, has_panel))]
 mod tried {
     use host::account::Account;
+    use host::archive::Setter;
     use host::driver::{other_box, other_depth};
     use host::random::Random;
     use host::tape::{bytes, Record};
-    use host::{answers, archive, boundaries, judge, tapes};
+    use host::words::{self, Page};
+    use host::{answers, archive, boundaries, judge, rows, tapes, texts};
 
-    /// A tape, its lines by the crate, the rooms to run it in, and a band whose boxes are asked.
+    /// A tape, its lines by the crate, the rooms to run it in, a band whose boxes are asked, and texts with their lines by the reading.
     pub struct Tried {
         name: &'static str,
         tape: Vec<u8>,
@@ -35,6 +37,7 @@ mod tried {
         rooms: Vec<usize>,
         account: Account,
         band: usize,
+        texts: Vec<[Vec<u8>; 2]>,
     }
 
     /// Seconds of processor time after which a changed archive is taken to run for ever; whole, all tapes take some two, emulated.
@@ -52,7 +55,33 @@ mod tried {
         let rooms = [&[archive::room(&tape), lines.len() + 9, lines.len().saturating_sub(1)], rooms].concat();
         let account = judge::account(&tape);
         let band = tape.len() % (account.bands().len() + 1);
-        Tried { name, tape, lines, rooms, account, band }
+        let texts = texts_after(&tape);
+        Tried { name, tape, lines, rooms, account, band, texts }
+    }
+
+    /// A text of each kind, one that is refused and one that is cut; after a tape that stops one as good as any.
+    fn texts_after(tape: &[u8]) -> Vec<[Vec<u8>; 2]> {
+        let mut random = Random(tape.len() as u64);
+        let page = Page::after(tape);
+        let mut some = vec![rows::text(tape.len(), 3)];
+        if let Ok(page) = &page {
+            let together = texts::together();
+            let refused = &together[random.below(together.len())];
+            let kinds = [texts::on_a_grid(&mut random, page), texts::wild(&mut random, page)];
+            some.extend(kinds.into_iter().chain([texts::refused(&mut random, page, refused)]).map(|text| text.bytes()));
+            some.push(some[1][1..].to_vec());
+        }
+        let with_lines = |text: Vec<u8>| {
+            let lines = words::printed(&page, &text);
+            [text, lines]
+        };
+        some.into_iter().map(with_lines).collect()
+    }
+
+    /// Whether a text is set otherwise than it has to be: with some room to spare, and with a byte too little.
+    fn other_lines(set: Setter, tape: &[u8], text: &[u8], lines: &[u8]) -> bool {
+        let differs = |room: usize| archive::difference_in(|lent| set(tape, text, lent), lines, room).is_some();
+        differs(lines.len() + 9) || differs(lines.len().saturating_sub(1))
     }
 
     /// The stored tapes, those at the constants, faults, and some random ones of every kind.
@@ -82,11 +111,16 @@ mod tried {
     pub fn first_difference(tapes: &[Tried]) -> Option<usize> {
         let (run, innermost, depth) =
             (archive::panel().unwrap(), archive::innermost().unwrap(), archive::depth().unwrap());
+        let set = archive::set_words().unwrap();
         tapes.iter().position(|tried| {
             let differs = |room: &usize| archive::difference(run, &tried.tape, &tried.lines, *room).is_some();
             let other_box = || other_box(innermost, &tried.tape, &tried.account, [tried.band]);
             let other_depth = || other_depth(depth, &tried.tape, &tried.account);
-            tried.rooms.iter().any(differs) || other_box().is_some() || other_depth().is_some()
+            let other_lines = |[text, lines]: &[Vec<u8>; 2]| other_lines(set, &tried.tape, text, lines);
+            tried.rooms.iter().any(differs)
+                || other_box().is_some()
+                || other_depth().is_some()
+                || tried.texts.iter().any(other_lines)
         })
     }
 

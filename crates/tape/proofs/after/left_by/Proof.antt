@@ -10,7 +10,7 @@ run-of-requires : tie.Need-run-of-requires
 run-of-requires c κs = search needs
 
 slice-aggregate-records : tie.Need-slice-aggregate-records
-slice-aggregate-records c = let e = length-take (c .before .run-of .result) (c .before .before .before .args .tape .now) in omega (arith, c .before .run-of .ensures .0)
+slice-aggregate-records c = let e = length-take (c .before .run-of .result) (c .before .before .before .before .args .tape .now) in omega (arith, c .before .run-of .ensures .0)
 
 array-borrow-prefix-none : tie.Need-array-borrow-prefix-none
 array-borrow-prefix-none c = search needs
@@ -19,10 +19,13 @@ slice-aggregate-records-2 : tie.Need-slice-aggregate-records-2
 slice-aggregate-records-2 c = search needs
 
 records-requires : tie.Need-records-requires
-records-requires c κs = let e = length-take (c .before .before .run-of .result) (c .before .before .before .before .args .tape .now) in omega (arith, c .before .before .run-of .ensures .0)
+records-requires c κs = let e = length-take (c .before .before .before .run-of .result) (c .before .before .before .before .before .before .args .tape .now) in omega (arith, c .before .before .before .run-of .ensures .0)
+
+same-length : tie.Need-same-length
+same-length c = search needs
 
 returns : tie.Need-returns
-returns c = left-same (c .before .before .before .before .before .before .args .tape .now) (c .before .before .before .before .run-of .ensures) (c .before .records .ensures .left)
+returns c = left-same (c .before .before .before .before .before .before .before .before .before .before .args .tape .now) (c .before .before .before .before .before .before .before .run-of .ensures) (c .before .before .before .records .ensures .left)
 
 pub left-by-spec : {M : Type 1} → statement M
 left-by-spec =
@@ -33,4 +36,5 @@ left-by-spec =
     array-borrow-prefix-none
     slice-aggregate-records-2
     records-requires
+    same-length
     returns)

@@ -4,6 +4,12 @@ use borrow.Author.Needs.{needs}
 use Rattle.tape.proofs.run.lines.Statement.{statement}
 use Rattle.tape.proofs.run.lines.Tie as tie
 
+array-borrow-prefix-none : tie.Need-array-borrow-prefix-none
+array-borrow-prefix-none c = search needs
+
+slice-aggregate-records : tie.Need-slice-aggregate-records
+slice-aggregate-records c = search needs
+
 records-requires : tie.Need-records-requires
 records-requires c κs = search needs
 
@@ -11,7 +17,7 @@ same-length : tie.Need-same-length
 same-length c = search needs
 
 returns : tie.Need-returns
-returns c = c .before .before .records .ensures .answered
+returns c = search needs
 
 letter-line-requires : tie.Need-letter-line-requires
 letter-line-requires c κs = search needs
@@ -26,6 +32,8 @@ pub lines-spec : {M : Type 1} → statement M
 lines-spec =
     tie.close
     (tie.spec
+    array-borrow-prefix-none
+    slice-aggregate-records
     records-requires
     same-length
     returns
