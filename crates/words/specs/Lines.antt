@@ -60,7 +60,7 @@ unfoldable pub nextStart : (y z : Float) → List Segment → Float
 nextStart y z [] = z
 nextStart y z (s ∷ l) = elim (lt y (s .start)) [ true ↦ s .start | false ↦ nextStart y z l ]
 
--- and that is the last end. It lies below y on every page that calls reach (`moves-down`); on one made by hand a line never goes up
+-- and that is the last end. Where a line moves it lies below y, on every page that calls reach (`moves-down`); on one made by hand a line never goes up
 unfoldable pub movedTo : List Segment → Float → Float
 movedTo l y = nextStart y (larger y (lastEnd y l)) l
 
