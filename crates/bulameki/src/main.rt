@@ -1,5 +1,7 @@
 // The program: runs the tape of a file, or of standard input where no file is named, and writes its lines to standard output.
 // Where a second file is named, that is a text: its lines are written instead, set around the boxes of the page after the tape.
+#![tactic(auto)]
+
 ghost use Rattle.std.specs.Prelude.{◌≤◌, length};
 
 use libc::{STDERR_FILENO, STDIN_FILENO, STDOUT_FILENO};

@@ -19,7 +19,7 @@ use crate::{
 };
 
 // What to look for: n is at most 96, from at most n, and y is min_y. A refused question may be looked for too; its answer is the refusal.
-#[derive(Drop)]
+#[derive(Clone, Copy)]
 pub struct Quest {
     pub check: Check,
     pub n: usize,

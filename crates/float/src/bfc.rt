@@ -11,14 +11,14 @@ use crate::slot::{Insets, Sought};
 use crate::{BandNumber, BfcAnswer, BfcSlot, Direction, FloatContext, Segment, ask, number};
 
 // What a BFC question hands in: the containing insets, and the margin insets.
-#[derive(Drop)]
+#[derive(Clone, Copy)]
 pub struct BfcInsets {
     pub containing: Insets,
     pub margin: Insets,
 }
 
 // The insets of the border box and of the stretched box.
-#[derive(Drop)]
+#[derive(Clone, Copy)]
 pub struct BfcBoxes {
     pub border: Insets,
     pub stretch: Insets,

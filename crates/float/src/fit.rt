@@ -5,7 +5,7 @@ ghost use Rattle.float.specs.Fit.{passes as passes_of, placed_at, fits as fits_o
 use crate::{FloatDirection, number};
 
 // What a place is asked for: the box, the page's width, the containing insets by lead and trail, and the box's side.
-#[derive(Drop)]
+#[derive(Clone, Copy)]
 pub struct Ask {
     pub width: f32,
     pub height: f32,

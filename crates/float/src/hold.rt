@@ -21,7 +21,7 @@ use crate::{
 };
 
 // What is asked of a place, the number n of bands, at most 96, the first band allowed and y; where the check is passed.
-#[derive(Drop)]
+#[derive(Clone, Copy)]
 pub struct Admission {
     pub check: Check,
     pub ask: Ask,
@@ -31,7 +31,7 @@ pub struct Admission {
 }
 
 // Where accepted: the answer, the head after it, the plan of the bands and the box. Else the refusal and the head as it was.
-#[derive(Drop)]
+#[derive(Clone, Copy)]
 pub struct Entry {
     pub accepted: bool,
     pub answer: PlaceAnswer,
@@ -41,7 +41,7 @@ pub struct Entry {
 }
 
 // The answer of setting the width, and the head after it.
-#[derive(Drop)]
+#[derive(Clone, Copy)]
 pub struct Widening {
     pub answer: Done,
     pub head: Head,

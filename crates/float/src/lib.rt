@@ -1,5 +1,7 @@
 // The float-placement module: one page of floated boxes, the calls that change it and the calls that ask it.
 // A call takes the page by value and hands it back, but `place_in` changes it where it lies; a refused call gives the page it was given.
+#![tactic(auto)]
+
 pub mod ask;
 mod band;
 mod bfc;
@@ -19,14 +21,14 @@ mod slot;
 pub mod touch;
 
 // The side that a box floats to.
-#[derive(Drop)]
+#[derive(Clone, Copy)]
 pub enum FloatDirection {
     Left,
     Right,
 }
 
 // The sides whose boxes a call must stand below.
-#[derive(Drop)]
+#[derive(Clone, Copy)]
 pub enum Clear {
     None,
     Left,
@@ -35,14 +37,14 @@ pub enum Clear {
 }
 
 // The direction of the text.
-#[derive(Drop)]
+#[derive(Clone, Copy)]
 pub enum Direction {
     Ltr,
     Rtl,
 }
 
 // The width that a calculator is asked for.
-#[derive(Drop)]
+#[derive(Clone, Copy)]
 pub enum AvailableSpace {
     Definite(f32),
     MinContent,
@@ -50,7 +52,7 @@ pub enum AvailableSpace {
 }
 
 // The reasons for which a call is refused. The paper's number of each is `number_of` in specs/Refuse.antt.
-#[derive(Drop)]
+#[derive(Clone, Copy)]
 pub enum Refusal {
     UnknownCode,
     NotFinite,
@@ -64,28 +66,28 @@ pub enum Refusal {
 }
 
 // A height that is kept, or none yet.
-#[derive(Drop)]
+#[derive(Clone, Copy)]
 pub enum Bottom {
     None,
     At(f32),
 }
 
 // A band's number, or none.
-#[derive(Drop)]
+#[derive(Clone, Copy)]
 pub enum BandNumber {
     None,
     At(usize),
 }
 
 // The number of an accepted box, counted from 0 over both sides, or none.
-#[derive(Drop)]
+#[derive(Clone, Copy)]
 pub enum BoxNumber {
     None,
     At(u8),
 }
 
 // A band of the page: where it starts and ends, how far its two sides are taken, whether a float stands there, and which box was recorded there last.
-#[derive(Drop)]
+#[derive(Clone, Copy)]
 pub struct Segment {
     pub start: f32,
     pub end: f32,
@@ -98,7 +100,7 @@ pub struct Segment {
 }
 
 // An accepted box. Its inset is measured from the edge that it floats to.
-#[derive(Drop)]
+#[derive(Clone, Copy)]
 pub struct PlacedFloatedBox {
     pub width: f32,
     pub height: f32,
@@ -108,7 +110,7 @@ pub struct PlacedFloatedBox {
 }
 
 // A page: its bands from top to bottom, its boxes in the order of acceptance, and what is kept of them.
-#[derive(Drop)]
+#[derive(Clone, Copy)]
 pub struct FloatContext {
     pub width: f32,
     pub bands: [Segment; 96],
@@ -124,7 +126,7 @@ pub struct FloatContext {
 }
 
 // A page without its two arrays, for a holder that keeps those where they lie.
-#[derive(Drop)]
+#[derive(Clone, Copy)]
 pub struct Head {
     pub width: f32,
     pub count: usize,
@@ -138,63 +140,63 @@ pub struct Head {
 }
 
 // A placement's answer: x, y and the step count, or the refusal.
-#[derive(Drop)]
+#[derive(Clone, Copy)]
 pub enum PlaceAnswer {
     At(f32, f32, usize),
     Refused(Refusal),
 }
 
 // A placement's answer and the page after it.
-#[derive(Drop)]
+#[derive(Clone, Copy)]
 pub struct Placed {
     pub answer: PlaceAnswer,
     pub page: FloatContext,
 }
 
 // What a call that gives no number answers.
-#[derive(Drop)]
+#[derive(Clone, Copy)]
 pub enum Done {
     Accepted,
     Refused(Refusal),
 }
 
 // The answer of setting the width, and the page after it.
-#[derive(Drop)]
+#[derive(Clone, Copy)]
 pub struct Widened {
     pub answer: Done,
     pub page: FloatContext,
 }
 
 // The boxes of one side, in the order of acceptance, at the front of the array.
-#[derive(Drop)]
+#[derive(Clone, Copy)]
 pub struct FloatList {
     pub boxes: [PlacedFloatedBox; 64],
     pub count: usize,
 }
 
 // The answer to a question of yes or no.
-#[derive(Drop)]
+#[derive(Clone, Copy)]
 pub enum YesNo {
     Answer(bool),
     Refused(Refusal),
 }
 
 // The lowest bottom that a clear asks for, if any.
-#[derive(Drop)]
+#[derive(Clone, Copy)]
 pub enum Threshold {
     Answer(Bottom),
     Refused(Refusal),
 }
 
 // The box that stands innermost in a band on one side, if any.
-#[derive(Drop)]
+#[derive(Clone, Copy)]
 pub enum Innermost {
     Answer(BoxNumber),
     Refused(Refusal),
 }
 
 // Where content goes beside the floats.
-#[derive(Drop)]
+#[derive(Clone, Copy)]
 pub struct ContentSlot {
     pub band: BandNumber,
     pub x: f32,
@@ -202,14 +204,14 @@ pub struct ContentSlot {
     pub width: f32,
 }
 
-#[derive(Drop)]
+#[derive(Clone, Copy)]
 pub enum ContentAnswer {
     Slot(ContentSlot),
     Refused(Refusal),
 }
 
 // Where a box with a formatting context of its own goes beside the floats.
-#[derive(Drop)]
+#[derive(Clone, Copy)]
 pub struct BfcSlot {
     pub band: BandNumber,
     pub x: f32,
@@ -218,14 +220,14 @@ pub struct BfcSlot {
     pub stretch_width: f32,
 }
 
-#[derive(Drop)]
+#[derive(Clone, Copy)]
 pub enum BfcAnswer {
     Slot(BfcSlot),
     Refused(Refusal),
 }
 
 // The running sums of a row of floats: what is asked, the sum of each side, the largest total and the widest box.
-#[derive(Drop)]
+#[derive(Clone, Copy)]
 pub struct FloatIntrinsicWidthCalculator {
     pub available: AvailableSpace,
     pub left_sum: f32,
@@ -234,14 +236,14 @@ pub struct FloatIntrinsicWidthCalculator {
     pub widest: f32,
 }
 
-#[derive(Drop)]
+#[derive(Clone, Copy)]
 pub enum CalculatorAnswer {
     Started(FloatIntrinsicWidthCalculator),
     Refused(Refusal),
 }
 
 // The answer of adding a float, and the calculator after it.
-#[derive(Drop)]
+#[derive(Clone, Copy)]
 pub struct Added {
     pub answer: Done,
     pub calculator: FloatIntrinsicWidthCalculator,

@@ -7,7 +7,7 @@ use crate::number::{finite, offset_allowed, size_allowed};
 use crate::{Clear, Direction, FloatDirection, Refusal};
 
 // What refusals 1 to 3 say of a call.
-#[derive(Drop)]
+#[derive(Clone, Copy)]
 pub enum Check {
     Passed,
     Refused(Refusal),

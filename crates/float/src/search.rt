@@ -9,7 +9,7 @@ use crate::fit::Ask;
 use crate::{FloatDirection, Segment, fit, number};
 
 // The joined insets and the counted height.
-#[derive(Drop)]
+#[derive(Clone, Copy)]
 pub struct Reach {
     pub lead: f32,
     pub trail: f32,
@@ -17,7 +17,7 @@ pub struct Reach {
 }
 
 // What the search found: the start and the end band, the number of bands where there is none; y, the placed inset and the step count.
-#[derive(Drop)]
+#[derive(Clone, Copy)]
 pub struct Spot {
     pub start: usize,
     pub end: usize,

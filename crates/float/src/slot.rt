@@ -8,7 +8,7 @@ use crate::refuse::Check;
 use crate::{BandNumber, FloatContext, Head, YesNo, number, refuse};
 
 // Where a question lands, with its y: no band reaches below min_y, or a band, or past the last of them.
-#[derive(Drop)]
+#[derive(Clone, Copy)]
 pub enum Sought {
     Quiet(f32),
     At(usize, f32),
@@ -16,7 +16,7 @@ pub enum Sought {
 }
 
 // A left and a right inset.
-#[derive(Drop)]
+#[derive(Clone, Copy)]
 pub struct Insets {
     pub left: f32,
     pub right: f32,

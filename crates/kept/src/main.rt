@@ -1,4 +1,6 @@
 // Keeps one page where it lies: its width is set, two boxes are placed on it, a third is refused. Then it is asked.
+#![tactic(auto)]
+
 ghost use Rattle.std.specs.Prelude.{◌≡◌};
 ghost use Rattle.float.specs.Place.{width_of};
 ghost use Rattle.kept.specs.Keep.{kept_of};
@@ -16,7 +18,7 @@ const NEITHER: u8 = 0;
 const RIGHTS: u8 = 2;
 
 // The answers of three placements, and the page after them.
-#[derive(Drop)]
+#[derive(Clone, Copy)]
 pub struct Kept {
     pub left: PlaceAnswer,
     pub right: PlaceAnswer,

@@ -1,4 +1,6 @@
 // The boundary for C and Rust: the tape's run, questions on the page after it and a text set on it, on numbers and byte slices alone.
+#![tactic(auto)]
+
 ghost use Rattle.std.specs.Prelude.{◌≡◌};
 ghost use Rattle.tape.specs.Tape.{lines_of, returned, filled, innermost_after, depth_after};
 ghost use Rattle.tape.specs.Text.{words_after};

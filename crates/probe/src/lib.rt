@@ -1,4 +1,6 @@
 // The leaves for tests: thin exports of the float crate's functions on numbers, 1 for true and 0 for false. Each takes any f32, a NaN too.
+#![tactic(auto)]
+
 ghost use Rattle.std.specs.Prelude.{◌≡◌};
 ghost use Rattle.probe.specs.Truth.{bit, fits_at};
 ghost use Rattle.probe.specs.Kept.{page_after, box_at};

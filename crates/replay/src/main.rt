@@ -1,5 +1,7 @@
 // Replays the stored answers: each tape on standard input is run, and its lines are held to those that stand there after it.
 // The file stdin beside src/ has the lines that the crate gives: host/src/bin/answers.rs says how it is written.
+#![tactic(auto)]
+
 ghost use Rattle.std.specs.Prelude.{◌≡◌, ◌≤◌, true};
 ghost use Rattle.tape.specs.Tape.{lines_of};
 
@@ -49,7 +51,7 @@ fn agrees(tape: &[u8], lines: &[u8], room: &mut [u8]) -> bool
 }
 
 // What the next tape and its lines are.
-#[derive(Drop)]
+#[derive(Clone, Copy)]
 enum Pair {
     Agrees,
     Differs,
@@ -81,7 +83,7 @@ fn replay() -> Pair {
     }
 }
 
-#[derive(Drop)]
+#[derive(Clone, Copy)]
 struct Tally {
     tapes: u64,
     differ: u64,

@@ -1,4 +1,6 @@
 // The tape of calls: a tape's records are read, run on a page and a calculator, and each prints its line.
+#![tactic(auto)]
+
 mod after;
 mod bytes;
 mod line;

@@ -6,14 +6,14 @@ use crate::bytes::{f32_at, u16_at};
 use float::{AvailableSpace, BandNumber};
 
 // The mode of a calculator, with the number of a definite one.
-#[derive(Drop)]
+#[derive(Clone, Copy)]
 pub enum Mode {
     Known(AvailableSpace),
     Unknown,
 }
 
 // A record, by its kind.
-#[derive(Drop)]
+#[derive(Clone, Copy)]
 pub enum Record {
     Fresh,
     Width(f32),
@@ -53,7 +53,7 @@ pub enum Record {
 }
 
 // What stands at a kind: a record with its whole body, or an unknown kind or a cut body.
-#[derive(Drop)]
+#[derive(Clone, Copy)]
 pub enum Read {
     Whole(Record),
     Broken,

@@ -13,7 +13,7 @@ use float::{Bottom, Head, Refusal, Segment, hold};
 use words::lay;
 
 // The head and the calculator after a record, the offset of the next, and where its line ends.
-#[derive(Drop)]
+#[derive(Clone, Copy)]
 struct Ran {
     head: Head,
     calculator: Calculator,
@@ -96,7 +96,7 @@ fn laid_of(n: usize, m: usize) -> usize
 }
 
 // What a run leaves: where its lines end, how wide the page is, how many bands it has, the band at the place that was asked for, and how deep it is.
-#[derive(Drop)]
+#[derive(Clone, Copy)]
 pub struct Ended {
     pub end: usize,
     pub width: f32,

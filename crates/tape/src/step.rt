@@ -23,21 +23,21 @@ use float::{
     FloatIntrinsicWidthCalculator, Head, PlacedFloatedBox, Refusal, Segment, ask, hold,
 };
 
-#[derive(Drop)]
+#[derive(Clone, Copy)]
 pub enum Calculator {
     None,
     One(FloatIntrinsicWidthCalculator),
 }
 
 // What a run keeps between two records, as the definitions have it: the run itself holds the page in its parts.
-#[derive(Drop)]
+#[derive(Clone, Copy)]
 pub struct State {
     pub page: FloatContext,
     pub calculator: Calculator,
 }
 
 // The calculator after a record that leaves the page, and where its line ends.
-#[derive(Drop)]
+#[derive(Clone, Copy)]
 pub struct Reckoned {
     pub calculator: Calculator,
     pub end: usize,
@@ -142,7 +142,7 @@ fn reckon(calculator: Calculator, call: Record, room: &mut [u8], at: usize) -> R
 }
 
 // Whether a placement is to be made, and what is asked; else the refusal of one that is not.
-#[derive(Drop)]
+#[derive(Clone, Copy)]
 pub struct Placement {
     pub is: bool,
     pub no: Refusal,
@@ -209,7 +209,7 @@ fn no_placing() -> Placement
 }
 
 // Whether a question is to be answered, and what it looks for among the bands.
-#[derive(Drop)]
+#[derive(Clone, Copy)]
 pub struct Question {
     pub is: bool,
     pub quest: Quest,
@@ -332,7 +332,7 @@ pub fn found_line(
 }
 
 // The head and the calculator after a record, and where its line ends.
-#[derive(Drop)]
+#[derive(Clone, Copy)]
 pub struct Rest {
     pub head: Head,
     pub calculator: Calculator,

@@ -126,7 +126,7 @@ fn judge_text(text: &[u8], n: usize) -> Judged
 }
 
 // What stands after the widths of a text.
-#[derive(Drop)]
+#[derive(Clone, Copy)]
 pub struct Figures {
     pub gap: f32,
     pub height: f32,

@@ -1,1 +1,2 @@
 // Theorems only: a tape makes the calls that the promises speak of.
+#![tactic(auto)]

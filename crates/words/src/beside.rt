@@ -12,7 +12,7 @@ use float::Segment;
 use float::number::larger;
 
 // A line's two edges, as insets, and whether it touches a band.
-#[derive(Drop)]
+#[derive(Clone, Copy)]
 pub struct Span {
     pub left: f32,
     pub right: f32,

@@ -8,14 +8,14 @@ use crate::TextRefusal;
 use float::number::{finite, offset_allowed, plus_zero, size_allowed};
 
 // What is said of a text before any line is set.
-#[derive(Drop)]
+#[derive(Clone, Copy)]
 pub enum TextCheck {
     Passed,
     Refused(TextRefusal),
 }
 
 // Whether all of some numbers are finite, and all inside their limits.
-#[derive(Drop)]
+#[derive(Clone, Copy)]
 pub struct Judged {
     pub finite: bool,
     pub allowed: bool,

@@ -1,4 +1,6 @@
 // Words set in lines around the floated boxes of a page: a crate above `float`, of which it sees the public calls, fields and definitions.
+#![tactic(auto)]
+
 mod beside;
 pub mod check;
 mod fill;
@@ -14,7 +16,7 @@ pub use crate::set::set_beside;
 use float::FloatContext;
 
 // The reasons for which a text is refused. The paper's number of each is `number_of` in specs/Text.antt.
-#[derive(Drop)]
+#[derive(Clone, Copy)]
 pub enum TextRefusal {
     NotFinite,
     OutOfLimits,
@@ -24,7 +26,7 @@ pub enum TextRefusal {
 }
 
 // A line: its left edge, its top, the number of its first word counted from 0, and how many it has.
-#[derive(Drop)]
+#[derive(Clone, Copy)]
 pub struct Line {
     pub x: f32,
     pub y: f32,
@@ -32,14 +34,14 @@ pub struct Line {
     pub count: u16,
 }
 
-#[derive(Drop)]
+#[derive(Clone, Copy)]
 pub enum SetAnswer {
     Set,
     Refused(TextRefusal),
 }
 
 // The lines of a text from the top down, at the front of the array; none where it is refused.
-#[derive(Drop)]
+#[derive(Clone, Copy)]
 pub struct Lines {
     pub answer: SetAnswer,
     pub lines: [Line; 512],
