@@ -7,9 +7,6 @@ use native.Mathlib.Decide.{dec_le}
 use native.Mathlib.Nat.{le_of_suc-le-suc, not-suc-le-zero}
 use native.Mathlib.Numerals.{add-one}
 use native.Mathlib.Omega.{arith}
-use denote.Laws.{Is}
-use denote.Struct.Declared.{row}
-use mir.Val.{Val}
 use lib.Ieee.{Float, nan, lt}
 use lib.ListN.{length, take, drop, get_or, set, length-append, length-map}
 use lib.Seq.{lt-length-set, length-take-le, take_all, take_at, take-suc, sets, length-sets, sets-eq}
@@ -18,7 +15,6 @@ use Rattle.float.specs.declared.FloatContext.{FloatContext}
 use Rattle.float.specs.declared.Segment.{Segment}
 use Rattle.float.specs.Bands.{none, bare, last_end}
 use Rattle.float.specs.Page.{page_of}
-use Rattle.float.specs.contracts.FloatContext.{the_type}
 use Rattle.words.specs.declared.TextRefusal.{TextRefusal}
 use Rattle.words.specs.declared.beside.Span.{Span}
 use Rattle.words.specs.declared.check.TextCheck.{TextCheck}
@@ -214,10 +210,6 @@ lays_one {bs} {xs} {i} h k ys s e p =
     record { front = ap (λ n. take (4 * n) ys) (add-one i) ∙ p ∙ ap₂ (λ a b. a ++ b.start ∷ b.end ∷ b.left ∷ b.right ∷ []) h.front e ∙ sym (laid_one (take i bs) (get_or bs i none)) ∙ ap laid (sym (take-suc bs i none k)) ∙ ap (λ n. laid (take n bs)) (sym (add-one i)) }
 
 -- ---- a page's bands
-
--- the array that the machine holds has 96 places
-pub bands_96 : (p : FloatContext) (v : List Val) → Is (row the_type) p v → length p.bands ≡ 96
-bands_96 p v g = sym (length-map p.bands _) ∙ g.1.1.1.0.1.0.1
 
 -- all live bands are laid
 pub set_page : (p : FloatContext) (xs : List Float) (n : ℕ) (t : Text) → length p.bands ≡ 96 → n ≡ min p.count 96 → Lays p.bands xs n → set_on p.width (read (take (4 * n) xs)) t ≡ set_words (page_of p) t
