@@ -3,7 +3,7 @@
 -- Assumes nothing.
 use Rattle.std.proofs.Common.{◌≡◌, ℕ, List, [], ◌∷◌, refl, w8, MutBor}
 use seplogic.Ra.Ura.{Ura}
-use seplogic.Ra.TreeShare.{full_share}
+use base.Fraction.{full_share}
 use lib.Ieee.{binary32}
 use mir.Syntax.{Opd as Operand, Place, Body, Ty, call, seq, named}
 use mir.Val.{Val, vptr}
@@ -112,6 +112,8 @@ module _ {M : Type 1} {𝓤 : Ura M} (𝓛 : Logic 𝓤) (at_mem : Memory → SP
       move t (2 ∷ 0 ∷ []) $ use2 𝓛 (raw ((PlaceIn 𝓛 at_mem run).pre (to α γ))) (goes are α γ) $ calls_at t fm (PlaceIn 𝓛 at_mem run) known (to α γ) (o α γ) (λ y.
       use1 𝓛 (later (some (λ (a : PlaceAnswer). ((‵ (flft (α ∷ []) full_share) ⊛ ‵ ftrue) ⊛ ‵ ((E.the_row).own_val a (y ∷ []))) ⊛ raw (ensured 𝓛 IsPlace-in.ended (IsPlace-in.clauses 𝓛 at_mem run) (α ∷ [], tt) (ref γ, ns) tt a)))) (id⊢ 𝓤 _) $ await t tt $ pick t (λ a. split t $ move t (1 ∷ []) $
       use1 𝓛 (some (λ (ws : Lasts IsPlace-in.ended (α ∷ [], tt) (ref γ, ns)). ‵ (lasts IsPlace-in.ended (α ∷ [], tt) (ref γ, ns) ws) ⊛ raw (fact 𝓤 (Says a ws.0 h ns)))) (id⊢ 𝓤 _) $ pick t (λ ws. split t $ move t (1 ∷ []) $ heard t (Says a ws.0 h ns) (λ e. fsplit t $
+      -- [what the reference leaves: its last page and its borrow; nothing; the token and the answer; the lender's part; …]
+      fsplit t $ move t (1 ∷ []) $ drop t $
       -- [the last page; nothing; the token and the answer; the lender's part; …]
       move t (2 ∷ []) $ split t $ split t $ lft_end t tt $ move t (0 ∷ 5 ∷ 3 ∷ []) $ use3 𝓛 (later (‵ ((mem T.the_row).own_at ws.0 b 0))) (ref_back 𝓛 T.the_row (α ∷ []) γ ws.0 b 0) $ await t tt $
       use1 𝓛 (some (λ (u : Val). ‵ (fat full_share τ b 0 u) ⊛ ‵ ((T.the_row).own_val ws.0 (u ∷ [])))) (part_out 𝓛 T.the_row refl full_share ws.0 b 0) $ pick t (λ u. split t $

@@ -6,7 +6,6 @@ ghost use Rattle.float.specs.Place.{width_of};
 ghost use Rattle.kept.specs.Keep.{kept_of};
 
 use float::{BandNumber, Bottom, ContentAnswer, FloatContext, PlaceAnswer, Threshold};
-use libc::STDOUT_FILENO;
 
 // The codes of a call: the side of a box, and the sides that are cleared.
 const LEFT: u8 = 0;
@@ -68,74 +67,82 @@ fn whole(x: f32) -> u64 {
     n as u64
 }
 
-fn print_word(word: &[u8]) {
-    io::write_all(STDOUT_FILENO, word);
+// A write that fails is passed over; so with the next one.
+fn print_word(rt: &impl Print, word: &str) {
+    let _ = rt.print(word);
 }
 
-fn print_number(x: f32) {
-    io::print_decimal(STDOUT_FILENO, whole(x));
+fn print_count(rt: &impl Print, n: u64) {
+    let _ = rt.print(n);
 }
 
-fn print_placed(name: &[u8], answer: PlaceAnswer) {
-    print_word(name);
+fn print_number(rt: &impl Print, x: f32) {
+    print_count(rt, whole(x));
+}
+
+fn print_placed(rt: &impl Print, name: &str, answer: PlaceAnswer) {
+    print_word(rt, name);
     match answer {
         PlaceAnswer::At(x, y, steps) => {
-            print_word(b"x ");
-            print_number(x);
-            print_word(b", y ");
-            print_number(y);
-            print_word(b", steps ");
-            io::print_decimal(STDOUT_FILENO, steps as u64);
-            print_word(b"\n");
+            print_word(rt, "x ");
+            print_number(rt, x);
+            print_word(rt, ", y ");
+            print_number(rt, y);
+            print_word(rt, ", steps ");
+            print_count(rt, steps as u64);
+            print_word(rt, "\n");
         }
-        PlaceAnswer::Refused(_) => print_word(b"refused\n"),
+        PlaceAnswer::Refused(_) => print_word(rt, "refused\n"),
     }
 }
 
-fn print_slot(answer: ContentAnswer) {
+fn print_slot(rt: &impl Print, answer: ContentAnswer) {
     match answer {
         ContentAnswer::Slot(slot) => {
-            print_word(b"content: x ");
-            print_number(slot.x);
-            print_word(b", y ");
-            print_number(slot.y);
-            print_word(b", width ");
-            print_number(slot.width);
-            print_word(b"\n");
+            print_word(rt, "content: x ");
+            print_number(rt, slot.x);
+            print_word(rt, ", y ");
+            print_number(rt, slot.y);
+            print_word(rt, ", width ");
+            print_number(rt, slot.width);
+            print_word(rt, "\n");
         }
-        ContentAnswer::Refused(_) => print_word(b"content: refused\n"),
+        ContentAnswer::Refused(_) => print_word(rt, "content: refused\n"),
     }
 }
 
-fn print_bottom(name: &[u8], bottom: Bottom) {
-    print_word(name);
+fn print_bottom(rt: &impl Print, name: &str, bottom: Bottom) {
+    print_word(rt, name);
     match bottom {
         Bottom::At(y) => {
-            print_word(b"y ");
-            print_number(y);
-            print_word(b"\n");
+            print_word(rt, "y ");
+            print_number(rt, y);
+            print_word(rt, "\n");
         }
-        Bottom::None => print_word(b"none\n"),
+        Bottom::None => print_word(rt, "none\n"),
     }
 }
 
-fn print_below(answer: Threshold) {
+fn print_below(rt: &impl Print, answer: Threshold) {
     match answer {
-        Threshold::Answer(bottom) => print_bottom(b"below the right box: ", bottom),
-        Threshold::Refused(_) => print_word(b"below the right box: refused\n"),
+        Threshold::Answer(bottom) => print_bottom(rt, "below the right box: ", bottom),
+        Threshold::Refused(_) => print_word(rt, "below the right box: refused\n"),
     }
 }
 
-fn main() {
+fn main(rt: HostRuntime) {
     let kept = keep();
     let left = kept.left;
     let right = kept.right;
     let refused = kept.refused;
-    print_placed(b"left box: ", left);
-    print_placed(b"right box: ", right);
-    print_placed(b"third box: ", refused);
+    print_placed(&rt, "left box: ", left);
+    print_placed(&rt, "right box: ", right);
+    print_placed(&rt, "third box: ", refused);
     let page = kept.page;
-    print_slot(page.find_content_slot(0.0, 0.0, 0.0, NEITHER, BandNumber::None));
-    print_below(page.cleared_threshold(RIGHTS));
-    print_bottom(b"depth: ", page.depth());
+    print_slot(
+        &rt,
+        page.find_content_slot(0.0, 0.0, 0.0, NEITHER, BandNumber::None),
+    );
+    print_below(&rt, page.cleared_threshold(RIGHTS));
+    print_bottom(&rt, "depth: ", page.depth());
 }

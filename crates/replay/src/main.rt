@@ -2,18 +2,21 @@
 // The file stdin beside src/ has the lines that the crate gives: host/src/bin/answers.rs says how it is written.
 #![tactic(auto)]
 
-ghost use Rattle.std.specs.Prelude.{◌≡◌, ◌≤◌, true};
+ghost use Rattle.std.specs.Prelude.{◌≡◌, ◌≤◌, length, IfOk, true};
 ghost use Rattle.tape.specs.Tape.{lines_of};
 
-use libc::{STDIN_FILENO, STDOUT_FILENO};
+use std::io::Read;
+use std::rt::HostRuntime;
 
 // The longest part, since a part's length is a u16.
 const PART: usize = 65535;
 
-// What `read_part` answers where there is no part: the input is at its end, or breaks off.
-const END: isize = -1;
-
-const CUT: isize = -2;
+// Why there is no part: the input is at its end, or breaks off.
+#[derive(Clone, Copy)]
+enum NoPart {
+    End,
+    Cut,
+}
 
 fn wide(b: u8) -> usize
     ensures { result ≤ 255 }
@@ -21,21 +24,37 @@ fn wide(b: u8) -> usize
     b as usize
 }
 
+// Reads up to the end of the room, of the input, or to a read that fails, and answers how many bytes came.
+fn read_full<R: Read>(from: &mut R, room: &mut [u8]) -> usize
+    ensures { result ≤ length room.new }
+{
+    let mut n = 0;
+    while n < room.len() {
+        match from.read(&mut room[n..]) {
+            Ok(more) if more > 0 => n += more,
+            _ => break,
+        }
+    }
+    n
+}
+
 // A part is its length, little-endian, and its bytes. Answers the length.
-fn read_part(part: &mut [u8]) -> isize {
+fn read_part<R: Read>(from: &mut R, part: &mut [u8]) -> Result<usize, NoPart>
+    ensures { IfOk result (λ n. n ≤ length part.new) }
+{
     let mut head = [0u8; 2];
-    let got = io::read_full(STDIN_FILENO, &mut head);
+    let got = read_full(from, &mut head);
     if got == 0 {
-        return END;
+        return Err(NoPart::End);
     }
     if got < 2 {
-        return CUT;
+        return Err(NoPart::Cut);
     }
-    let n = io::count((wide(head[0]) + 256 * wide(head[1])) as isize, part);
-    if io::read_full(STDIN_FILENO, &mut part[..n]) < n {
-        return CUT;
+    let n = part.len().min(wide(head[0]) + 256 * wide(head[1]));
+    if read_full(from, &mut part[..n]) < n {
+        return Err(NoPart::Cut);
     }
-    n as isize
+    Ok(n)
 }
 
 // True only where the lines that document 01 gives the tape are these: what agrees in a run agrees with the definition.
@@ -46,7 +65,7 @@ fn agrees(tape: &[u8], lines: &[u8], room: &mut [u8]) -> bool
     if written < 0 {
         return false;
     }
-    let n = io::count(written as isize, room);
+    let n = room.len().min(written as usize);
     check::same(&room[..n], lines)
 }
 
@@ -59,22 +78,17 @@ enum Pair {
     Cut,
 }
 
-fn replay() -> Pair {
+fn replay<R: Read>(from: &mut R) -> Pair {
     let mut tape = [0u8; PART];
-    let of_tape = read_part(&mut tape);
-    if of_tape == END {
-        return Pair::End;
-    }
-    if of_tape < 0 {
-        return Pair::Cut;
-    }
+    let n = match read_part(from, &mut tape) {
+        Ok(n) => n,
+        Err(NoPart::End) => return Pair::End,
+        Err(NoPart::Cut) => return Pair::Cut,
+    };
     let mut lines = [0u8; PART];
-    let of_lines = read_part(&mut lines);
-    if of_lines < 0 {
+    let Ok(k) = read_part(from, &mut lines) else {
         return Pair::Cut;
-    }
-    let n = io::count(of_tape, &tape);
-    let k = io::count(of_lines, &lines);
+    };
     let mut room = [0u8; PART];
     if agrees(&tape[..n], &lines[..k], &mut room) {
         Pair::Agrees
@@ -92,29 +106,34 @@ struct Tally {
 
 fn counted(t: Tally, differ: u64) -> Tally {
     Tally {
-        tapes: std::num::wrapping_add_u64(t.tapes, 1),
-        differ: std::num::wrapping_add_u64(t.differ, differ),
+        tapes: t.tapes.wrapping_add(1),
+        differ: t.differ.wrapping_add(differ),
         more: true,
     }
 }
 
-fn print_count(n: u64, what: &[u8]) {
-    io::print_decimal(STDOUT_FILENO, n);
-    io::write_all(STDOUT_FILENO, what);
+// A write that fails is passed over; so with the next one.
+fn print_word(rt: &impl Print, word: &str) {
+    let _ = rt.print(word);
 }
 
-fn next(t: Tally) -> Tally {
-    let pair = replay();
+fn print_count(rt: &impl Print, n: u64, what: &str) {
+    let _ = rt.print(n);
+    print_word(rt, what);
+}
+
+fn next(rt: &HostRuntime, t: Tally) -> Tally {
+    let pair = replay(&mut rt.stdin());
     match pair {
         Pair::Agrees => counted(t, 0),
         Pair::Differs => {
-            io::write_all(STDOUT_FILENO, b"tape ");
-            print_count(t.tapes, b" differs\n");
+            print_word(rt, "tape ");
+            print_count(rt, t.tapes, " differs\n");
             counted(t, 1)
         }
         Pair::Cut => {
-            io::write_all(STDOUT_FILENO, b"tape ");
-            print_count(t.tapes, b" breaks off\n");
+            print_word(rt, "tape ");
+            print_count(rt, t.tapes, " breaks off\n");
             Tally {
                 tapes: t.tapes,
                 differ: t.differ,
@@ -122,8 +141,8 @@ fn next(t: Tally) -> Tally {
             }
         }
         Pair::End => {
-            print_count(t.tapes, b" tapes, ");
-            print_count(t.differ, b" differ\n");
+            print_count(rt, t.tapes, " tapes, ");
+            print_count(rt, t.differ, " differ\n");
             Tally {
                 tapes: t.tapes,
                 differ: t.differ,
@@ -134,7 +153,7 @@ fn next(t: Tally) -> Tally {
 }
 
 // Nothing says that an input ends, so the turns are counted down from a number that no run uses up.
-fn main() {
+fn main(rt: HostRuntime) {
     let mut tally = Tally {
         tapes: 0,
         differ: 0,
@@ -142,7 +161,7 @@ fn main() {
     };
     let mut turns = u64::MAX;
     while turns > 0 && tally.more {
-        tally = next(tally);
+        tally = next(&rt, tally);
         turns -= 1;
     }
 }
