@@ -4,8 +4,9 @@
 The form is that of rt's must-fail edits: an explaining line, `file: src/x.rt`, `old: text` (which
 stands there exactly once) and `new: text`; several pairs may follow. `rt ci` tries must-fail edits
 itself, at the gate and at each merge; these are many, and are tried here, each by `rt check` in a
-copy of the repository over what is proved already, in seconds. The crate without the edit must be
-proved first. An edit that only makes a proof file unfit for the code ("has no field", "is not in
+copy of the repository over what is proved already, in seconds: first of the functions that it
+changes alone, and of the whole crate where nothing is refused there. The crate without the edit must
+be proved first. An edit that only makes a proof file unfit for the code ("has no field", "is not in
 scope"), that cannot be read, or that only meets a limit of the prover shows nothing and counts as a
 failure.
 
@@ -93,42 +94,49 @@ def copy_crates(where, kept=True):
     shutil.copy(ROOT / "crates.txt", where / "crates.txt")
 
 
-def check(where, name, jobs=1):
-    """The status and the words of `rt check` of a crate there."""
-    run = subprocess.run(["rt", "check", "--jobs", str(jobs)], cwd=where / "crates" / name, stdin=subprocess.DEVNULL,
-                         stdout=subprocess.PIPE, stderr=subprocess.STDOUT)
+def check(where, name, jobs=1, only=()):
+    """The status and the words of `rt check` of a crate there, or of some functions of it."""
+    words = ["rt", "check", "--jobs", str(jobs), *[word for path in only for word in ("--only", path)]]
+    run = subprocess.run(words, cwd=where / "crates" / name, stdin=subprocess.DEVNULL, stdout=subprocess.PIPE, stderr=subprocess.STDOUT)
     return run.returncode, run.stdout.decode("utf-8", "replace")
 
 
+def verdict(said):
+    """The last line that says how much is proved."""
+    return ([line for line in said.splitlines() if line.startswith(("logic=", "only="))] or [""])[-1]
+
+
 def is_proved(result):
-    return result[0] == 0 and re.search(r"^logic=proved ", result[1], re.M) is not None
+    return result[0] == 0 and verdict(result[1]).startswith("logic=proved ")
 
 
 def is_refused(result):
     """Whether the prover read all and refused something."""
-    return result[0] == 1 and [line for line in result[1].splitlines() if line.startswith("logic=")][-1:] == ["logic=not-proved"]
+    last = verdict(result[1])
+    some = re.fullmatch(r"only=(\d+) proved=(\d+)", last)
+    return result[0] == 1 and (last == "logic=not-proved" or some is not None and int(some[2]) < int(some[1]))
 
 
-def errors(said):
-    """What is refused, each with where: first errors, then what is not proved."""
+def told(said, notes=True):
+    """What is refused, each with where: errors, and with `notes` what is not proved."""
     found, lines = [], said.splitlines()
     for at, line in enumerate(lines):
-        told = TOLD.match(line)
-        if told and (told["error"] or told["note"]):
+        one = TOLD.match(line)
+        if one and (one["error"] or notes and one["note"]):
             rest = [more.strip() for more in itertools.takewhile(lambda more: more.startswith("  "), lines[at + 1:])]
-            found.append((told["where"], " ".join([told["what"]] + rest[:4])))
+            found.append((one["where"], " ".join([one["what"]] + rest[:4])))
     return found
 
 
 def facts(said):
-    """The errors that say more than that a name is gone."""
-    return [(where, what) for where, what in errors(said) if not UNFIT.search(what.split("(names in it")[0])]
+    """What says more than that a name is gone."""
+    return [(where, what) for where, what in told(said) if not UNFIT.search(what)]
 
 
 def unread(said, files):
     """An error that shows that one of these files, or the code, or a definition, could not be read."""
-    for where, what in errors(said):
-        named = re.match(r"(?:`[^`]*`: )(.*)", what)
+    for where, what in told(said, notes=False):
+        named = re.match(r"`[^`]*`: (.*)", what)
         if (where in files or where.startswith(("src/", "specs/"))) and (not named or UNREAD.search(re.sub(r"`[^`]*`", "", named[1]))):
             return f"{where}: {what}"
     return ""
@@ -136,11 +144,29 @@ def unread(said, files):
 
 def first_words(said):
     """The first thing that was said against the crate."""
-    told = facts(said) or errors(said)
-    if told:
-        return ": ".join(told[0])
+    found = facts(said) or told(said)
+    if found:
+        return ": ".join(found[0])
     lines = [line for line in said.splitlines() if re.search(r"error|: not proved|rt: ", line)]
     return (lines or said.splitlines()[-1:] or ["nothing was said"])[0]
+
+
+def functions(crate, pairs):
+    """The functions that an edit of code changes, by the ends of their paths; none where it changes something else."""
+    now, found = {}, []
+    for file, old, new in pairs:
+        text = now.setdefault(file, (crate / file).read_text())
+        at = text.find(old)
+        heads = [] if not file.endswith(".rt") else [*re.finditer(r"^( *)(?:pub(?:\(\w+\))? )?(?:extern \"C\" )?fn (\w+)", text[:at + len(old)], re.M)]
+        if not heads or at < 0:
+            return []
+        indent, name = heads[-1].groups()
+        if re.search(rf"^{indent}}}", text[heads[-1].start():at], re.M):
+            return []
+        owner = re.findall(r"^impl\b[^{]*?(\w+)(?:<[^{]*>)? *{", text[:at], re.M)[-1] if indent else Path(file).stem
+        found.append(name if owner == "lib" else f"{owner}::{name}")
+        now[file] = text.replace(old, new)
+    return list(dict.fromkeys(found))
 
 
 def judged(result, files):
@@ -153,17 +179,27 @@ def judged(result, files):
         return False, f"BAD EDIT: it cannot be read: {bad}"
     if not is_refused(result):
         return False, f"BAD EDIT: it did not reach the prover (status {status}): {first_words(said)}"
-    told = facts(said)
-    if not told:
+    found = facts(said)
+    if not found:
         return False, f"SHOWS NOTHING: {first_words(said)}"
-    return True, f"refused: {': '.join(told[0])}"
+    return True, f"refused: {': '.join(found[0])}"
 
 
 def try_edit(where, name, path):
     """Whether the edit is refused because a fact fails, and what to say of it."""
+    crate = where / "crates" / name
+
+    def ask(files, only):
+        if only:
+            good, words = judged(check(where, name, only=only), files)
+            if good:
+                return good, words
+        return judged(check(where, name), files)
+
     try:
-        files = {file for file, _, _ in read_edit(path)}
-        return judged(with_edit(where / "crates" / name, path, lambda: check(where, name)), files)
+        pairs = read_edit(path)
+        only = functions(crate, pairs)
+        return with_edit(crate, path, lambda: ask({file for file, _, _ in pairs}, only))
     except (ValueError, OSError) as why:
         return False, f"BAD EDIT: {why}"
 
