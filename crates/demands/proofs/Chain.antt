@@ -81,8 +81,8 @@ chain_split x (b ∷ bs) zero y c v h g = (
 chain_split x (b ∷ bs) (suc i) y c v h g = (c.0, c.1, chain_split b.end bs i y c.2 v h g)
 
 marked_sound : (r : FloatDirection) (num : ℕ) {v : Float} {b : Segment} → Ins v → Sound b → Sound (marked r v num b)
-marked_sound FloatDirection.Left num p s = record { start = s.start; end = s.end; inset = λ q. elim q [ FloatDirection.Left ↦ p | FloatDirection.Right ↦ s.inset FloatDirection.Right ]; order = s.order }
-marked_sound FloatDirection.Right num p s = record { start = s.start; end = s.end; inset = λ q. elim q [ FloatDirection.Left ↦ s.inset FloatDirection.Left | FloatDirection.Right ↦ p ]; order = s.order }
+marked_sound FloatDirection.Left num {v = v} {b = b} p s = record { start = s.start; end = s.end; inset = λ q. elim q as (λ r. Ins (lead r (marked FloatDirection.Left v num b))) [ FloatDirection.Left ↦ p | FloatDirection.Right ↦ s.inset FloatDirection.Right ]; order = s.order }
+marked_sound FloatDirection.Right num {v = v} {b = b} p s = record { start = s.start; end = s.end; inset = λ q. elim q as (λ r. Ins (lead r (marked FloatDirection.Right v num b))) [ FloatDirection.Left ↦ s.inset FloatDirection.Left | FloatDirection.Right ↦ p ]; order = s.order }
 
 marked_start : (r : FloatDirection) (v : Float) (num : ℕ) (b : Segment) → (marked r v num b).start ≡ b.start
 marked_start FloatDirection.Right v num b = refl

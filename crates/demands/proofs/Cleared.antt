@@ -34,7 +34,7 @@ use Rattle.float.specs.Search.{search_from}
 use Rattle.float.specs.Place.{Call, cleaned, input_check, Result, lowest, first_allowed, ask_of, spot_of, refuse, put, admitted, checked, place}
 use Rattle.float.specs.Slot.{active, from, landed, seek, ContentCall, content_cleaned, content_check, content_slot, content_asked, content, BfcCall, bfc_cleaned, bfc_check, bfc_insets, bfc_slot, bfc_asked, bfc}
 use Rattle.demands.specs.Runs.{Accepted, F32, raised, unclear, content_unclear, bfc_unclear, Raises}
-use Rattle.demands.proofs.Laws.{k, Val}
+use Rattle.demands.proofs.Laws.{Val}
 use Rattle.demands.proofs.First.{first_quiet, last_quiet}
 use Rattle.demands.proofs.Input.{known_one, plus_fits, BottomIs, raise_is, cleared_is, larger_val}
 use Rattle.demands.proofs.Whole.{Inv}

@@ -2,7 +2,7 @@
 use mathlib.Core.Path.{◌≡◌, sym, ap, ap₂, ◌∙◌, subst}
 use Prim.Native.Nat.{suc, ◌+◌, ◌-◌, ◌^◌, ◌≤◌, ◌<◌}
 use native.Mathlib.Omega.{arith}
-use mathlib.Core.Bool.{Bool, true, not, ◌&&◌}
+use mathlib.Core.Bool.{Bool, true, false, not, ◌&&◌}
 use lib.IntN.{ℤ, pos, negsuc, nat_abs, sub_ℕ, ◌+ℤ◌}
 use lib.Dec.{T, ltb, ltb→lt, not_T}
 use lib.Ieee.{Float, binary32, add, sub, lt, le}
@@ -110,6 +110,7 @@ module _ (w : Float) (wq : Q w) (wi : Ins w) where
       where
         go : (t : Bool) → T t → Clear t w a b → k b.inset + k b.call.width + k (containing_trail b) ≤ k w + (B + B)
         go true o c = c.1
+        go false o c = elim o [ ]
 
     pub apart : T (sized a) → T (sized b) → T (not (overlap a b))
     apart s s' = not_T (overlap a b) (λ h.

@@ -104,8 +104,14 @@ module _ (r : FloatDirection) (v : Float) (num : ℕ) where
   over_marked b h = go r h
     where
       go : (r : FloatDirection) → k (lead r b) ≤ k v → Over b (marked r v num b)
-      go FloatDirection.Left h = record { inset = λ q. elim q [ FloatDirection.Left ↦ h | FloatDirection.Right ↦ omega arith ]; mark = λ q. elim q [ FloatDirection.Left ↦ λ t. tt | FloatDirection.Right ↦ λ t. t ] }
-      go FloatDirection.Right h = record { inset = λ q. elim q [ FloatDirection.Left ↦ omega arith | FloatDirection.Right ↦ h ]; mark = λ q. elim q [ FloatDirection.Left ↦ λ t. t | FloatDirection.Right ↦ λ t. tt ] }
+      go FloatDirection.Left h = record {
+        inset = λ q. elim q as (λ r. k (lead r b) ≤ k (lead r (marked FloatDirection.Left v num b))) [ FloatDirection.Left ↦ h | FloatDirection.Right ↦ omega arith ];
+        mark = λ q. elim q as (λ r. T (has_float r b) → T (has_float r (marked FloatDirection.Left v num b))) [ FloatDirection.Left ↦ λ t. tt | FloatDirection.Right ↦ λ t. t ];
+      }
+      go FloatDirection.Right h = record {
+        inset = λ q. elim q as (λ r. k (lead r b) ≤ k (lead r (marked FloatDirection.Right v num b))) [ FloatDirection.Left ↦ omega arith | FloatDirection.Right ↦ h ];
+        mark = λ q. elim q as (λ r. T (has_float r b) → T (has_float r (marked FloatDirection.Right v num b))) [ FloatDirection.Left ↦ λ t. t | FloatDirection.Right ↦ λ t. tt ];
+      }
 
   mark_step : (b : Segment) (bs bs' : List Segment) (h : Float) → k (lead r b) ≤ k v → Over (band_at h bs) (band_at h bs') → Over (band_at h (b ∷ bs)) (band_at h (marked r v num b ∷ bs'))
   unfolding band_at

@@ -46,8 +46,8 @@ module _ (g : List Accepted) where
   -- with no float
   pub bare_numbered : (x y l r : Float) → Numbered g (bare x y l r)
   bare_numbered x y l r = record {
-    shown = λ s. elim s [ FloatDirection.Left ↦ refl | FloatDirection.Right ↦ refl ];
-    names = λ s. elim s [ FloatDirection.Left ↦ λ k e. absurd (unnamed k e) | FloatDirection.Right ↦ λ k e. absurd (unnamed k e) ];
+    shown = λ s. elim s as (λ q. present (box_on q (bare x y l r)) ≡ has_float q (bare x y l r)) [ FloatDirection.Left ↦ refl | FloatDirection.Right ↦ refl ];
+    names = λ s. elim s as (λ q. (k : ℕ) → box_on q (bare x y l r) ≡ BoxNumber.At k → Names g q (bare x y l r) k) [ FloatDirection.Left ↦ λ k e. absurd (unnamed k e) | FloatDirection.Right ↦ λ k e. absurd (unnamed k e) ];
   }
 
   -- from x to y
@@ -67,15 +67,15 @@ module _ (g : List Accepted) where
 
       go : (r : FloatDirection) → side_in a ≡ r → Numbered (g ++ a ∷ []) (marked r (far_inset a) (length g) b)
       go FloatDirection.Left u = record {
-        shown = λ s. elim s [ FloatDirection.Left ↦ refl | FloatDirection.Right ↦ n.shown FloatDirection.Right ];
-        names = λ s. elim s [
+        shown = λ s. elim s as (λ q. present (box_on q (marked FloatDirection.Left (far_inset a) (length g) b)) ≡ has_float q (marked FloatDirection.Left (far_inset a) (length g) b)) [ FloatDirection.Left ↦ refl | FloatDirection.Right ↦ n.shown FloatDirection.Right ];
+        names = λ s. elim s as (λ q. (k : ℕ) → box_on q (marked FloatDirection.Left (far_inset a) (length g) b) ≡ BoxNumber.At k → Names (g ++ a ∷ []) q (marked FloatDirection.Left (far_inset a) (length g) b) k) [
           | FloatDirection.Left ↦ λ k e. record { named = a; kth = new k e; side = u; inset = refl }
           | FloatDirection.Right ↦ λ k e. names_as (g ++ a ∷ []) (g ++ a ∷ []) FloatDirection.Right b _ k (λ i x h. h) refl (n.names FloatDirection.Right k e)
         ];
       }
       go FloatDirection.Right u = record {
-        shown = λ s. elim s [ FloatDirection.Left ↦ n.shown FloatDirection.Left | FloatDirection.Right ↦ refl ];
-        names = λ s. elim s [
+        shown = λ s. elim s as (λ q. present (box_on q (marked FloatDirection.Right (far_inset a) (length g) b)) ≡ has_float q (marked FloatDirection.Right (far_inset a) (length g) b)) [ FloatDirection.Left ↦ n.shown FloatDirection.Left | FloatDirection.Right ↦ refl ];
+        names = λ s. elim s as (λ q. (k : ℕ) → box_on q (marked FloatDirection.Right (far_inset a) (length g) b) ≡ BoxNumber.At k → Names (g ++ a ∷ []) q (marked FloatDirection.Right (far_inset a) (length g) b) k) [
           | FloatDirection.Left ↦ λ k e. names_as (g ++ a ∷ []) (g ++ a ∷ []) FloatDirection.Left b _ k (λ i x h. h) refl (n.names FloatDirection.Left k e)
           | FloatDirection.Right ↦ λ k e. record { named = a; kth = new k e; side = u; inset = refl }
         ];

@@ -1,5 +1,5 @@
 -- What `enter` answers: a box of no height with a plan that changes nothing, any other with the plan of rules 6 and 7; the plan's y and count decide refusals 6 and 7, and its bands and numbers are those of the rules.
-use Rattle.std.proofs.Common.{◌≡◌, ℕ, ◌+◌, ◌-◌, ◌<◌, ◌≤◌, min, Bool, true, false, leb, List, length, get_or, take, set, sym, refl, ap, ◌∙◌, subst, arith, length-take-le, ext_get_or, le-leb, leb-false, leb-true}
+use Rattle.std.proofs.Common.{◌≡◌, ℕ, ◌-◌, ◌<◌, ◌≤◌, min, Bool, true, false, leb, List, length, get_or, take, set, sym, refl, ap, ◌∙◌, subst, arith, length-take-le, ext_get_or, le-leb, leb-false, leb-true}
 use native.Mathlib.Decide.{dec_le}
 use borrow.Author.Tests.{lt-leb}
 use lib.Count.{count_trailing_zeros}

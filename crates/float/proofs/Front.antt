@@ -1,11 +1,10 @@
 -- A list at the front of an array: laws of `front`, and the lengths of a page's two arrays.
-use Rattle.std.proofs.Common.{◌≡◌, ℕ, suc, ◌+◌, ◌<◌, ◌≤◌, min, List, [], ◌∷◌, ◌++◌, length, take, drop, set, sym, refl, ap, ◌∙◌, append_assoc, add-one, arith, length-append, take-append-drop, length-take-le, take_all, drop-cons}
+use Rattle.std.proofs.Common.{◌≡◌, ℕ, suc, ◌<◌, ◌≤◌, min, List, [], ◌∷◌, ◌++◌, length, take, drop, set, sym, refl, ap, ◌∙◌, append_assoc, add-one, arith, length-append, take-append-drop, length-take-le, take_all, drop-cons}
 use native.Mathlib.Decide.{dec_le}
 use native.Mathlib.Nat.{min-eq_left, min-eq_right}
 use denote.Laws.{Is}
 use denote.Struct.Declared.{row}
 use mir.Val.{Val}
-use lib.ListN.{length-map}
 use lib.Seq.{take-append_seam, set-append_seam}
 use Rattle.float.specs.declared.FloatContext.{FloatContext}
 use Rattle.float.specs.Page.{front}
@@ -52,7 +51,7 @@ module _ {A : Type 0} where
 
 -- a page that the machine holds has 96 places for bands and 64 for boxes
 pub bands_96 : (p : FloatContext) (v : List Val) → Is (row the_type) p v → length p.bands ≡ 96
-bands_96 p v g = sym (length-map p.bands _) ∙ g.1.1.1.0.1.0.1
+bands_96 p v g = g.1.1.1.0.1.0.1
 
 pub boxes_64 : (p : FloatContext) (v : List Val) → Is (row the_type) p v → length p.boxes ≡ 64
-boxes_64 p v g = sym (length-map p.boxes _) ∙ g.1.1.1.1.1.0.1.0.1
+boxes_64 p v g = g.1.1.1.1.1.0.1.0.1

@@ -11,7 +11,7 @@ use Rattle.float.specs.declared.refuse.Check.{Check}
 use Rattle.float.specs.Bands.{none}
 use Rattle.float.specs.Page.{Page}
 use Rattle.float.specs.Refuse.{side_of, check_of}
-use Rattle.float.specs.Slot.{recorded_on, innermost_on, innermost}
+use Rattle.float.specs.Slot.{recorded_on, innermost}
 
 nothing : (s : FloatDirection) → BoxNumber.None ≡ recorded_on s none
 nothing FloatDirection.Left = refl

@@ -1,29 +1,18 @@
--- Document 01's twelve marked examples and its tape as one table, with the boxes that their bands name (1/14), how deep their pages are (3/14) and words set around their boxes (4/14), and the theorem that the definitions give every figure in it.
-use Rattle.std.specs.Prelude.{ℕ, ◌≡◌, refl, Bool, true, false, ◌&&◌, cond, ℤ, pos, negsuc, eqb, length, take, replicate, Float}
-use mathlib.Core.List.{List, [], ◌∷◌, ◌++◌, map, flat_map}
-use Rattle.std.specs.Int.Count.{count_trailing_zeros}
+-- Document 01's twelve marked examples and its tape as one table, with the boxes that their bands name (1/14), how deep their pages are (3/14) and words set around their boxes (4/14). That the definitions give every figure in it is proved in proofs/Examples.antt.
+use Rattle.std.specs.Prelude.{ℕ, Bool, true, false, ◌&&◌, cond, ℤ, pos, negsuc, eqb, length, take, replicate, Float}
+use mathlib.Core.List.{List, [], ◌∷◌, ◌++◌, map}
 use Rattle.std.specs.Float.{binary32, nan}
-use Rattle.std.specs.Float.Ieee.{add, sub, lt, le, eq, of_bits, of_fields, of_int, neg, to_bits, sum, round, units, odd, size, span, climb}
-use Rattle.f32_laws.specs.Numbers.{larger, smaller, zero+, tol}
+use Rattle.std.specs.Float.Ieee.{of_bits, of_int, neg, to_bits}
 use Rattle.float.specs.declared.BandNumber.{BandNumber}
 use Rattle.float.specs.declared.FloatContext.{FloatContext}
-use Rattle.float.specs.Numbers.{plus_zero, finite, within, in_reach, all_finite, all_allowed}
-use Rattle.float.specs.Refuse.{check_of}
 use Rattle.float.specs.Answers.{Value, float, count, truth, missing, Said, refused, values, said_place, said_done, said_content, said_depth, said_innermost}
-use Rattle.float.specs.Bands.{split_at, mark_all, last_end, first_below}
-use Rattle.float.specs.Page.{page_of, stored, front, fresh_context}
-use Rattle.float.specs.Clear.{lower, raise_to, cleared}
-use Rattle.float.specs.Fit.{passes, placed_at, fits}
-use Rattle.float.specs.Search.{joined, taller, high_turn, join_turn, end_turn, fit_turn, start_turn, search, search_from}
-use Rattle.float.specs.Place.{Call, lowest, spot_of, walked, make, high, flat, put, admitted, checked, place, place_of, width_check, set_width, width_of}
-use Rattle.float.specs.Slot.{ContentCall, depth_of, innermost, active, seek, content_slot, content}
-use Rattle.words.specs.Text.{Text, check_of as checkText}
-use Rattle.words.specs.Lines.{span_over, span_at, more, next_start, moved_to, turn_at, set_from, set_on, set_words, answered, line_values, said_lines}
-use Rattle.tape.specs.Bytes.{f32_at, digits, float as floatText, decimals, decimal, fields}
-use Rattle.tape.specs.Record.{after_at, read_of}
-use Rattle.tape.specs.Lines.{refused_line, done_line, place_line, band, content_line}
-use Rattle.tape.specs.Tape.{fresh_state, step_of, run, lines_of, runs, page_after, depth_after, broken}
-use Rattle.tape.specs.Text.{floats_at, set_line, told_lines, or_else, words_after}
+use Rattle.float.specs.Page.{page_of, fresh_context}
+use Rattle.float.specs.Place.{Call, place_of, width_of}
+use Rattle.float.specs.Slot.{ContentCall, depth_of, innermost, content}
+use Rattle.words.specs.Text.{Text}
+use Rattle.words.specs.Lines.{set_words, answered, said_lines}
+use Rattle.tape.specs.Tape.{lines_of, depth_after}
+use Rattle.tape.specs.Text.{words_after}
 
 -- what is done to the page, and what it must say by the paper's numbers and values
 pub data Entry : Type 0 where
@@ -126,7 +115,7 @@ abbrev pub wide : List Float → Float → Float → Said → Entry
 wide ws h y s = text (record { widths = ws; gap = n 0; height = h; min_y = y; left = n 0; right = n 0 }) s
 
 -- the tape of document 01: width 100, a left box 10 by 30 at 0, a content question at 0, then byte 9
-pub first_tape : List ℕ
+unfoldable pub first_tape : List ℕ
 first_tape =
     1 ∷ 0 ∷ 0 ∷ 200 ∷ 66
     ∷ 2 ∷ 0 ∷ 0 ∷ 0 ∷ 0 ∷ 32 ∷ 65 ∷ 0 ∷ 0 ∷ 240 ∷ 65 ∷ 0 ∷ 0 ∷ 0 ∷ 0 ∷ 0 ∷ 0 ∷ 0 ∷ 0 ∷ 0 ∷ 0 ∷ 0 ∷ 0
@@ -135,7 +124,7 @@ first_tape =
     ∷ []
 
 -- its lines: W; P 00000000 00000000 0; C 1 41200000 00000000 42B40000; T 44
-pub first_lines : List ℕ
+unfoldable pub first_lines : List ℕ
 first_lines =
     87 ∷ 10
     ∷ 80 ∷ 32 ∷ 48 ∷ 48 ∷ 48 ∷ 48 ∷ 48 ∷ 48 ∷ 48 ∷ 48 ∷ 32 ∷ 48 ∷ 48 ∷ 48 ∷ 48 ∷ 48 ∷ 48 ∷ 48 ∷ 48 ∷ 32 ∷ 48 ∷ 10
@@ -144,7 +133,7 @@ first_lines =
     ∷ []
 
 -- a text (4/14): three words 40, 50 and 30 wide, gap 4, line height 12, min_y 0, insets 0
-pub first_text : List ℕ
+unfoldable pub first_text : List ℕ
 first_text =
     3 ∷ 0
     ∷ 0 ∷ 0 ∷ 32 ∷ 66 ∷ 0 ∷ 0 ∷ 72 ∷ 66 ∷ 0 ∷ 0 ∷ 240 ∷ 65
@@ -153,13 +142,13 @@ first_text =
     ∷ []
 
 -- its lines beside the left box: L 41200000 00000000 0 1; L 41200000 41400000 1 2
-pub first_words : List ℕ
+unfoldable pub first_words : List ℕ
 first_words =
     76 ∷ 32 ∷ 52 ∷ 49 ∷ 50 ∷ 48 ∷ 48 ∷ 48 ∷ 48 ∷ 48 ∷ 32 ∷ 48 ∷ 48 ∷ 48 ∷ 48 ∷ 48 ∷ 48 ∷ 48 ∷ 48 ∷ 32 ∷ 48 ∷ 32 ∷ 49 ∷ 10
     ∷ 76 ∷ 32 ∷ 52 ∷ 49 ∷ 50 ∷ 48 ∷ 48 ∷ 48 ∷ 48 ∷ 48 ∷ 32 ∷ 52 ∷ 49 ∷ 52 ∷ 48 ∷ 48 ∷ 48 ∷ 48 ∷ 48 ∷ 32 ∷ 49 ∷ 32 ∷ 50 ∷ 10
     ∷ []
 
-pub table : List Entry
+unfoldable pub table : List Entry
 table =
     -- 1: two bands; 2; 3, clearing left: below the left box and beside the right one (2/14), and before it a content question that lands there
     -- 1/14: the gap above names no box, a band added below the new one alone; a band that is not there, and an unknown side
@@ -277,7 +266,3 @@ table =
     ∷ words_of first_tape first_text (84 ∷ 32 ∷ 52 ∷ 52 ∷ 10 ∷ [])
     ∷ words_of [] (take 33 first_text) (84 ∷ 32 ∷ 48 ∷ 10 ∷ [])
     ∷ []
-
-pub marked_examples : holds table fresh_context ≡ true
-unfolding span_over span_at more next_start moved_to turn_at set_from set_on set_words answered line_values checkText depth_of innermost holds same all_written table first_tape first_lines page_of stored front fresh_context lower raise_to cleared split_at mark_all last_end first_below passes placed_at fits joined taller high_turn join_turn end_turn fit_turn start_turn search search_from plus_zero finite within in_reach all_finite all_allowed check_of lowest spot_of walked make high flat put admitted checked place place_of width_check set_width width_of active seek content_slot content f32_at digits floatText decimals decimal fields after_at read_of refused_line done_line place_line band content_line fresh_state step_of run lines_of runs page_after depth_after broken floats_at set_line told_lines or_else words_after first_text first_words flat_map larger smaller zero+ tol add sub lt le eq of_bits of_fields of_int neg to_bits sum round units odd size span climb count_trailing_zeros
-marked_examples = refl

@@ -27,19 +27,20 @@ known_all (c ∷ []) = and_last (not_below c.0 c.1)
 known_all (c ∷ d ∷ cs) = and_also (not_below c.0 c.1) (known_all (d ∷ cs))
 
 -- ---- the check
-module _ (p : Page) (q : Calculator) (a : Asked) where
-  row_1 : Applies p q a 1 → Some Unknown (handed a).codes
+module _ {p : Page} {q : Calculator} where
+  row_1 : {a : Asked} → Applies p q a 1 → Some Unknown (handed a).codes
   row_1 (unknown_code h) = h
 
-  row_2 : Applies p q a 2 → Some NotFinite (handed a).numbers
+  row_2 : {a : Asked} → Applies p q a 2 → Some NotFinite (handed a).numbers
   row_2 (not_finite h) = h
 
-  row_3 : Applies p q a 3 → Some Outside (handed a).numbers
+  row_3 : {a : Asked} → Applies p q a 3 → Some Outside (handed a).numbers
   row_3 (out_of_limits h) = h
 
-  row_0 : ¬ Applies p q a 0
+  row_0 : {a : Asked} → ¬ Applies p q a 0
   row_0 h = elim h [ ]
 
+module _ (p : Page) (q : Calculator) (a : Asked) where
   pub from_1 : Free (Applies p q a) 1
   from_1 = gap 0 row_0 (λ m l. absurd (omega arith))
 

@@ -25,7 +25,7 @@ use Rattle.float.specs.declared.slot.Sought.{Sought}
 use Rattle.float.specs.Page.{Page, page_of, front}
 use Rattle.float.specs.Place.{Call, place_of}
 use Rattle.float.specs.Slot.{active, landed, seek, content_slot, ContentCall, content, bfc_slot, BfcCall, bfc}
-use Rattle.demands.specs.Runs.{Each, handed, Handed, F32, after}
+use Rattle.demands.specs.Runs.{Each, handed, Handed, F32}
 use Rattle.demands.proofs.Adding.{check_ways}
 use Rattle.demands.proofs.Promises.{bands_lie, steps_at_most}
 use Rattle.tape.specs.declared.record.Read.{Read}

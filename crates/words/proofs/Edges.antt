@@ -76,6 +76,7 @@ module _ (y b : Float) where
       here true t =
           let w = (all_over s.end l (joined e s) c.2 d.1 (joined_edges e s h c.1 d.0)).1 in
           record { inset = λ r. omega (arith, w.inset r, ap k (joined_edge e s r), larger_key (h r).ins.num (c.1.inset r).num); touched = λ r f. w.stays tt }
+      here false t = absurd t
 
       go : (q : Bool) → (T q → k u < k s.end) → (T (not q) → Meets (band_at u l) (span_over y b (cond (touches y b s) (joined e s) e) l)) → Meets (elim q [ true ↦ s | false ↦ band_at u l ]) (span_over y b (cond (touches y b s) (joined e s) e) l)
       go true i j = here (touches y b s) (and_i (lt y s.end) (lt s.start b) (key→lt ny c.1.end.num (omega (arith, i tt))) (key→lt c.1.start.num nb (omega (arith, ap k c.0))))

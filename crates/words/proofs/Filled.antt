@@ -93,6 +93,7 @@ module _ (w : Float) (l : List Segment) (t : Text) where
     where
       go : (c : Bool) → T c → T (not c || le v (room_of w (span_at l t y))) → T (le v (room_of w (span_at l t y)))
       go true c f = f
+      go false c f = absurd c
 
   -- and with the next one they would not
   pub full : (k n : ℕ) (y v x : Float) (vs : List Float) → drop k t.widths ≡ v ∷ vs → Takes w l t y v vs x n → Full w l t (line_at x y k (suc n))

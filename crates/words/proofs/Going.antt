@@ -8,7 +8,7 @@ use native.Mathlib.Omega.{arith}
 use lib.Dec.{T, eqb, eqb→eq}
 use lib.Ieee.{Float, binary32, add, le, fits}
 use lib.Ieee.Fits.{and_l, and_r}
-use lib.ListN.{length, drop, get_or, set, replicate, length-append, length-drop, length-replicate}
+use lib.ListN.{length, drop, set, replicate, length-append, length-drop, length-replicate}
 use lib.Seq.{drop-cons, set-append_seam}
 use Rattle.float.specs.declared.Segment.{Segment}
 use Rattle.float.specs.Numbers.{size, offset, most, plus_zero, finite, within, allowed, all_finite, all_allowed, in_reach}
@@ -24,7 +24,7 @@ use Rattle.words.specs.declared.TextRefusal.{TextRefusal}
 use Rattle.words.specs.declared.beside.Span.{Span}
 use Rattle.words.specs.declared.check.TextCheck.{TextCheck}
 use Rattle.words.specs.Text.{Text, cleaned, max_words, check_of}
-use Rattle.words.specs.Lines.{bottom_at, span_at, room_of, first_fits, more, moved_to, Turn, too_far, moves, takes, turn_at, Told, lines, refused, before, set_from, set_all, set_on, answered, no_line}
+use Rattle.words.specs.Lines.{bottom_at, span_at, room_of, first_fits, more, moved_to, too_far, moves, takes, turn_at, Told, lines, refused, before, set_from, set_all, set_on, answered, no_line}
 use Rattle.words.specs.Laid.{taken}
 use Rattle.words.proofs.Checked.{passed}
 use Rattle.words.proofs.Judging.{finite_join, allowed_join}

@@ -1,6 +1,6 @@
 -- The refusals before any line: widths judged one at a time, then with the other numbers.
 use Prim.Native.Nat.{ℕ, zero, suc, ◌+◌, ◌-◌, ◌<◌, ◌≤◌}
-use mathlib.Core.Path.{◌≡◌, refl, sym, ap, ap₂, ◌∙◌, subst}
+use mathlib.Core.Path.{◌≡◌, refl, sym, ap, ap₂, ◌∙◌}
 use mathlib.Core.Bool.{Bool, true, false, ◌&&◌, cond}
 use mathlib.Core.List.{List, [], ◌∷◌, ◌++◌, map}
 use native.Mathlib.Numerals.{add-one}
@@ -10,7 +10,7 @@ use lib.Ieee.{Float, nan, eq}
 use lib.ListN.{length, take, drop, get_or, length-drop}
 use lib.Seq.{take_all, drop-cons}
 use Rattle.f32_laws.specs.Numbers.{zero+}
-use Rattle.float.specs.Numbers.{Given, size, offset, value, plus_zero, finite, within, most, least, allowed, all_finite, all_allowed}
+use Rattle.float.specs.Numbers.{Given, size, offset, value, plus_zero, finite, within, most, allowed, all_finite, all_allowed}
 use Rattle.words.specs.declared.TextRefusal.{TextRefusal}
 use Rattle.words.specs.declared.check.Judged.{Judged}
 use Rattle.words.specs.declared.check.TextCheck.{TextCheck}

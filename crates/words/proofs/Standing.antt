@@ -1,23 +1,23 @@
 -- Where a line stands among the bands that are left: those left behind end at or above its top, so that it finds beside the others what it finds beside all.
-use Prim.Native.Nat.{ℕ, zero, suc, ◌<◌}
+use Prim.Native.Nat.{ℕ, suc}
 use mathlib.Core.Path.{◌≡◌, refl, sym, ap, ◌∙◌, subst}
 use mathlib.Core.Bool.{Bool, true, false, not, ◌&&◌, cond, true≢false}
-use mathlib.Core.List.{List, [], ◌∷◌, ◌++◌, append_assoc, append-nil}
+use mathlib.Core.List.{List, [], ◌∷◌, ◌++◌, append_assoc}
 use native.Mathlib.Omega.{arith}
 use lib.Dec.{T}
 use lib.Ieee.{Float, inf, nan, fin, binary32, add, lt, le, eq}
-use lib.ListN.{length, take, drop, take-append-drop}
-use Rattle.f32_laws.specs.Key.{Num, Fin, key}
+use lib.ListN.{take, drop, take-append-drop}
+use Rattle.f32_laws.specs.Key.{Num, Fin}
 use Rattle.f32_laws.specs.Numbers.{larger, zero+}
-use Rattle.f32_laws.proofs.Keys.{num, key_in, le→key, key→le, lt→key, nlt→key}
+use Rattle.f32_laws.proofs.Keys.{num, key_in, le→key, key→le, nlt→key}
 use Rattle.f32_laws.proofs.Larger.{larger_num, larger_left}
 use Rattle.f32_laws.proofs.Order.{refl_le, trans_le, lt→le}
 use Rattle.f32_laws.proofs.Sums.{add_num, add_grows}
 use Rattle.float.specs.declared.Segment.{Segment}
 use Rattle.float.specs.Bands.{first_below, last_end}
-use Rattle.float.specs.Numbers.{in_reach, farthest}
+use Rattle.float.specs.Numbers.{in_reach}
 use Rattle.words.specs.declared.beside.Span.{Span}
-use Rattle.words.specs.Lines.{touches, joined, span_over, next_start}
+use Rattle.words.specs.Lines.{joined, span_over, next_start}
 use Rattle.words.specs.Laid.{Fine, Rising, passed_by}
 use Rattle.words.proofs.Spans.{not_lt, rising_drop}
 

@@ -1,7 +1,7 @@
 -- How many words a line takes: the loop goes on where the definition does, and stops where it stops.
-use Prim.Native.Nat.{ℕ, zero, suc, ◌+◌, ◌<◌, ◌≤◌}
-use mathlib.Core.Path.{◌≡◌, refl, sym, ap, ◌∙◌, subst}
-use mathlib.Core.Bool.{Bool, true, false, not, cond}
+use Prim.Native.Nat.{ℕ, suc, ◌+◌, ◌<◌, ◌≤◌}
+use mathlib.Core.Path.{◌≡◌, refl, sym, ap, ◌∙◌}
+use mathlib.Core.Bool.{Bool, true, false, cond}
 use mathlib.Core.List.{List, [], ◌∷◌, map}
 use native.Mathlib.Omega.{arith}
 use lib.Ieee.{Float, nan, binary32, add, le}
@@ -36,9 +36,6 @@ pub record Takes (ws : List Float) (room gap v sum : Float) (n : ℕ) : Type 0 w
   pub within : n ≤ length ws
   pub some : 0 < n
   pub same : suc (more room gap v (map plus_zero (drop 1 ws))) ≡ n + more room gap sum (map plus_zero (drop n ws))
-
-pub take_starts : (ws : List Float) (room gap v : Float) → 0 < length ws → Takes ws room gap v v 1
-take_starts ws room gap v h = record { within = h; some = omega arith; same = omega arith }
 
 more_yes : (room gap sum v : Float) (vs : List Float) → le (add binary32 (add binary32 sum gap) v) room ≡ true → more room gap sum (v ∷ vs) ≡ suc (more room gap (add binary32 (add binary32 sum gap) v) vs)
 unfolding more

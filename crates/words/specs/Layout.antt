@@ -10,7 +10,7 @@ use Rattle.float.specs.Numbers.{in_reach}
 use Rattle.demands.specs.Runs.{Accepted, bottom, right_edge, ExactSum}
 use Rattle.words.specs.declared.Line.{Line}
 use Rattle.words.specs.Text.{Text}
-use Rattle.words.specs.Lines.{bottom_at, span_at, room_of, Turn, moves, takes, turn_at}
+use Rattle.words.specs.Lines.{bottom_at, span_at, room_of, moves, takes, turn_at}
 
 -- firsts and counts tile k .. n - 1, and every count is at least 1
 abbrev pub Tiles : ℕ → ℕ → List Line → Type 0

@@ -1,0 +1,15 @@
+-- `float::hold::head_after` meets its contract: each field is what its leaf answers.
+use Rattle.float.proofs.Coded.{head_code}
+use Rattle.float.proofs.hold.head_after.Goals as goal
+
+pub returns : goal.returns
+returns c =
+    let s = c.args in
+    head_code s.head s.a s.p
+    c.bottom_after-left.ensures
+    c.bottom_after-right.ensures
+    c.lower-top.ensures
+    c.lower-deep.ensures
+    c.smaller_n.ensures
+    c.number_after.ensures
+    c.number_after-2.ensures
