@@ -61,17 +61,31 @@ not_both e h = let z : ◌≡◌ {A = ℕ} 0 1 = cc in absurd (omega arith)
 pub one_record : {r : Read} {x y : Record} → r ≡ Read.Whole x → r ≡ Read.Whole y → x ≡ y
 one_record e h = cc
 
--- ---- the record of a last arm: by what it is not, or by the tags that are left to it
+-- ---- the record of a last arm, by the tags that are left to it
 
-pub is_result : (r : Record) → ((m : Mode) → r ≡ Record.Start m → ⊥) → ((w : Float) (s k : ℕ) → r ≡ Record.Add w s k → ⊥) → reckons r ≡ true → r ≡ Record.Result
-is_result Record.Fresh x y e = apart e
-is_result (Record.Width w) x y e = apart e
-is_result (Record.Place side clear w k b l r) x y e = apart e
-is_result (Record.Content b l r clear after) x y e = apart e
-is_result (Record.Bfc b l r ml mr d clear after) x y e = apart e
-is_result (Record.Start mode) x y e = absurd (x mode refl)
-is_result (Record.Add w side clear) x y e = absurd (y w side clear refl)
-is_result Record.Result x y e = refl
+abbrev pub reckon_tags : List ℕ
+reckon_tags = 0 ∷ 1 ∷ 2 ∷ 3 ∷ 4 ∷ 7 ∷ []
+
+pub is_result : (r : Record) → OneOf reckon_tags (tag_of the_type r) → reckons r ≡ true → r ≡ Record.Result
+is_result Record.Fresh h e = apart e
+is_result (Record.Width w) h e = apart e
+is_result (Record.Place side clear w k y l r) h e = apart e
+is_result (Record.Content y l r clear after) h e = apart e
+is_result (Record.Bfc y l r ml mr d clear after) h e = apart e
+is_result (Record.Start mode) h e = absurd (miss reckon_tags 5 tt h)
+is_result (Record.Add w side clear) h e = absurd (miss reckon_tags 6 tt h)
+is_result Record.Result h e = refl
+
+-- the same, by the records that the arms before it took
+pub result_left : (r : Record) → ((m : Mode) → r ≡ Record.Start m → ⊥) → ((w : Float) (s k : ℕ) → r ≡ Record.Add w s k → ⊥) → reckons r ≡ true → r ≡ Record.Result
+result_left Record.Fresh x y e = apart e
+result_left (Record.Width w) x y e = apart e
+result_left (Record.Place side clear w k b l r) x y e = apart e
+result_left (Record.Content b l r clear after) x y e = apart e
+result_left (Record.Bfc b l r ml mr d clear after) x y e = apart e
+result_left (Record.Start mode) x y e = absurd (x mode refl)
+result_left (Record.Add w side clear) x y e = absurd (y w side clear refl)
+result_left Record.Result x y e = refl
 
 abbrev pub rest_tags : List ℕ
 rest_tags = 3 ∷ 4 ∷ 5 ∷ 6 ∷ 7 ∷ []

@@ -2,7 +2,7 @@
 use mathlib.Core.Path.{refl}
 use Rattle.tape.specs.Put.{state_of}
 use Rattle.tape.specs.Tape.{step_of}
-use Rattle.tape.proofs.Stepping.{of_known, on_calculator_lem, is_result}
+use Rattle.tape.proofs.Stepping.{of_known, on_calculator_lem, result_left}
 use Rattle.tape.proofs.step.reckon.Goals as goal
 
 pub returns-in-Start : goal.returns-in-Start
@@ -21,4 +21,4 @@ pub returns-in_default : goal.returns-in_default
 unfolding step_of
 returns-in_default c page =
     let s = state_of page c.args.calculator in
-    of_known (step_of s) (is_result c.args.call c.in_default.not-Start c.in_default.not-Add c.requires.1) (record { after = refl; line = c.result_line.ensures })
+    of_known (step_of s) (result_left c.args.call c.in_default.not-Start c.in_default.not-Add c.requires.1) (record { after = refl; line = c.result_line.ensures })
