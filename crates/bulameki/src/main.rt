@@ -50,16 +50,20 @@ fn say(rt: &HostRuntime, words: &[u8]) {
     let _ = rt.stderr().write_all(words);
 }
 
-// Names what failed, and why, in the system's words alone.
+// An error's words without the number behind them, " (os error 2)".
+fn words_alone(text: &str) -> &str {
+    match text.split_once(" (os error ") {
+        Some((words, _)) => words,
+        None => text,
+    }
+}
+
+// Names what failed, and why.
 fn fail(rt: &HostRuntime, what: &[u8], why: io::Error) {
     let text = InlineText::<256>::of(why);
-    let words = match text.as_str().split_once(" (os error ") {
-        Some((words, _)) => words,
-        None => text.as_str(),
-    };
     say(rt, what);
     say(rt, b": ");
-    say(rt, words.as_bytes());
+    say(rt, words_alone(text.as_str()).as_bytes());
     say(rt, b"\n");
 }
 

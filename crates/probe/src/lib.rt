@@ -12,6 +12,7 @@ ghost use Rattle.float.specs.Numbers.{most, least, plus_zero, finite, within, in
 use float::fit::Ask;
 use float::{FloatContext, FloatDirection};
 
+#[tactic(auto, unfolding(crate::specs::Truth::bit))]
 fn byte(b: bool) -> u8
     ensures { result ≡ bit b }
 {

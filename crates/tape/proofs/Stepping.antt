@@ -18,6 +18,7 @@ use Rattle.float.specs.Head.{page_with}
 use Rattle.float.specs.Place.{Call, place_of}
 use Rattle.float.specs.declared.hold.Admission.{Admission}
 use Rattle.float.specs.declared.ask.Quest.{Quest}
+use Rattle.tape.specs.declared.record.Mode.{Mode}
 use Rattle.tape.specs.declared.record.Read.{Read}
 use Rattle.tape.specs.declared.record.Record.{Record}
 use Rattle.tape.specs.declared.step.Calculator.{Calculator}
@@ -74,6 +75,17 @@ is_result (Record.Bfc y l r ml mr d clear after) h e = apart e
 is_result (Record.Start mode) h e = absurd (miss reckon_tags 5 tt h)
 is_result (Record.Add w side clear) h e = absurd (miss reckon_tags 6 tt h)
 is_result Record.Result h e = refl
+
+-- the same, by the records that the arms before it took
+pub result_left : (r : Record) → ((m : Mode) → r ≡ Record.Start m → ⊥) → ((w : Float) (s k : ℕ) → r ≡ Record.Add w s k → ⊥) → reckons r ≡ true → r ≡ Record.Result
+result_left Record.Fresh x y e = apart e
+result_left (Record.Width w) x y e = apart e
+result_left (Record.Place side clear w k b l r) x y e = apart e
+result_left (Record.Content b l r clear after) x y e = apart e
+result_left (Record.Bfc b l r ml mr d clear after) x y e = apart e
+result_left (Record.Start mode) x y e = absurd (x mode refl)
+result_left (Record.Add w side clear) x y e = absurd (y w side clear refl)
+result_left Record.Result x y e = refl
 
 abbrev pub rest_tags : List ℕ
 rest_tags = 3 ∷ 4 ∷ 5 ∷ 6 ∷ 7 ∷ []

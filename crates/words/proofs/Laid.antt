@@ -11,8 +11,8 @@ use denote.Laws.{Is}
 use denote.Struct.Declared.{row}
 use mir.Val.{Val}
 use lib.Ieee.{Float, nan, lt}
-use lib.ListN.{length, take, drop, get_or}
-use lib.Seq.{take_all, take-suc}
+use lib.ListN.{length, take, drop, get_or, set, length-append}
+use lib.Seq.{lt-length-set, length-take-le, take_all, take_at, take-suc, sets, length-sets, sets-eq}
 use Rattle.f32_laws.specs.Numbers.{larger}
 use Rattle.float.specs.declared.FloatContext.{FloatContext}
 use Rattle.float.specs.declared.Segment.{Segment}
@@ -97,6 +97,43 @@ end_last y xs h = last (read xs) refl
     last (s ∷ l) e =
         let n : length xs / 4 ≡ suc (length l) = sym (read_length xs) ∙ ap length e in
         ap (λ i. get_or xs i nan) (omega arith) ∙ (reads xs (length l) (omega arith)).end ∙ ap (λ m. (get_or m (length l) none).end) e ∙ sym (ap (last_end y) e ∙ last_is y s l)
+
+-- ---- four places set, one after the other
+
+module _ (l : List Float) (k : ℕ) (a b c d : Float) where
+  as_sets : set (set (set (set l k a) (k + 1) b) (k + 2) c) (k + 3) d ≡ sets l k (a ∷ b ∷ c ∷ d ∷ [])
+  as_sets =
+      ap (λ n. set (set (set (set l k a) n b) (k + 2) c) (k + 3) d) one
+      ∙ ap (λ n. set (set (set (set l k a) (suc k) b) n c) (k + 3) d) two
+      ∙ ap (λ n. set (set (set (set l k a) (suc k) b) (suc (suc k)) c) n d) three
+    where
+      one : k + 1 ≡ suc k
+      one = omega arith
+
+      two : k + 2 ≡ suc (suc k)
+      two = omega arith
+
+      three : k + 3 ≡ suc (suc (suc k))
+      three = omega arith
+
+  pub four_long : length (set (set (set (set l k a) (k + 1) b) (k + 2) c) (k + 3) d) ≡ length l
+  four_long = ap length as_sets ∙ length-sets l k (a ∷ b ∷ c ∷ d ∷ [])
+
+module _ (l : List Float) (i : ℕ) where
+  pub place_2 : (a : Float) → i < length l / 4 → 4 * i + 1 < length (set l (4 * i) a)
+  place_2 a h = lt-length-set l (4 * i) a (omega (arith, h))
+
+  pub place_3 : (a b : Float) → i < length l / 4 → 4 * i + 2 < length (set (set l (4 * i) a) (4 * i + 1) b)
+  place_3 a b h = lt-length-set (set l (4 * i) a) (4 * i + 1) b (lt-length-set l (4 * i) a (omega (arith, h)))
+
+  pub place_4 : (a b c : Float) → i < length l / 4 → 4 * i + 3 < length (set (set (set l (4 * i) a) (4 * i + 1) b) (4 * i + 2) c)
+  place_4 a b c h = lt-length-set (set (set l (4 * i) a) (4 * i + 1) b) (4 * i + 2) c (lt-length-set (set l (4 * i) a) (4 * i + 1) b (lt-length-set l (4 * i) a (omega (arith, h))))
+
+  pub four_laid : (a b c d : Float) → 4 * suc i ≤ length l → take (4 * suc i) (set (set (set (set l (4 * i) a) (4 * i + 1) b) (4 * i + 2) c) (4 * i + 3) d) ≡ take (4 * i) l ++ a ∷ b ∷ c ∷ d ∷ []
+  four_laid a b c d h =
+      let vs = a ∷ b ∷ c ∷ d ∷ [] in
+      let e : length (take (4 * i) l ++ vs) ≡ 4 * suc i = length-append (take (4 * i) l) vs ∙ ap (λ n. n + 4) (length-take-le (4 * i) l (omega (arith, h))) ∙ omega arith in
+      ap (take (4 * suc i)) (as_sets l (4 * i) a b c d ∙ sets-eq vs l (4 * i) (omega (arith, h))) ∙ take_at (take (4 * i) l ++ vs) (drop (4 * i + length vs) l) (4 * suc i) e
 
 -- ---- bands laid and read back: a line sees no more of a band than its four numbers
 

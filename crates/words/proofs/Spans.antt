@@ -9,6 +9,7 @@ use lib.Ieee.{Float, nan, inf, fin, binary32, lt, le, eq, fits}
 use lib.Ieee.Fits.{and_l, and_r}
 use lib.ListN.{length, drop, get_or}
 use Rattle.f32_laws.specs.Key.{IsNum, Num}
+use Rattle.f32_laws.specs.Numbers.{larger}
 use Rattle.f32_laws.proofs.Keys.{le→key, key→le, lt→key}
 use Rattle.f32_laws.proofs.Order.{refl_le, trans_le, not_lt→le}
 use Rattle.float.specs.declared.Segment.{Segment}
@@ -19,6 +20,10 @@ use Rattle.words.specs.Lines.{joined, span_over, next_start}
 use Rattle.words.specs.Laid.{read, Fine, Rising, passed_by}
 use Rattle.words.proofs.Judging.{rest_here, rest_none}
 use Rattle.words.proofs.Laid.{read_length, reads}
+
+-- one more band is joined
+pub touched : (e : Span) (t : Bool) (l r : Float) {a b : Float} (s : Segment) → t ≡ true → a ≡ larger e.left l → b ≡ larger e.right r → s.left ≡ l → s.right ≡ r → ◌≡◌ {A = Span} (record { left = a; right = b; beside = true }) (cond t (joined e s) e)
+touched e t l r s p q u v w = rw (p, q, u, v, w) refl
 
 -- past the last band nothing is left
 past_all : (xs : List Float) (i : ℕ) → length xs / 4 ≤ i → drop i (read xs) ≡ []
@@ -75,6 +80,9 @@ pub record Counts (xs : List Float) (y : Float) (n i : ℕ) : Type 0 where
   pub all : n ≡ length xs / 4
   pub same : first_below (read xs) 0 y ≡ i + first_below (drop i (read xs)) 0 y
 
+pub count_starts : (xs : List Float) (y : Float) → Counts xs y (length xs / 4) 0
+count_starts xs y = record { within = zero-le; all = refl; same = omega arith }
+
 module _ {xs : List Float} {y : Float} {n i : ℕ} (s : Counts xs y n i) where
   pub count_finds : i < n → lt y (get_or xs (4 * i + 1) nan) ≡ true → i ≡ first_below (read xs) 0 y
   count_finds h t =
@@ -93,6 +101,9 @@ module _ {xs : List Float} {y : Float} {n i : ℕ} (s : Counts xs y n i) where
   count_ends h =
       let z : first_below (drop i (read xs)) 0 y ≡ 0 = ap (λ l. first_below l 0 y) (past_all xs i (omega (arith, h, s.all))) in
       omega (arith, s.same, z)
+
+pub passed_none : (s : Bool) (l : List Segment) (y : Float) → s ≡ false → 0 ≡ passed_by s l y
+passed_none s l y p = rw p refl
 
 pub passed_is : (s : Bool) (l : List Segment) (y : Float) {i : ℕ} → s ≡ true → i ≡ first_below l 0 y → i ≡ passed_by s l y
 passed_is s l y p q = rw p q

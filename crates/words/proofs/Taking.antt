@@ -37,6 +37,9 @@ pub record Takes (ws : List Float) (room gap v sum : Float) (n : ℕ) : Type 0 w
   pub some : 0 < n
   pub same : suc (more room gap v (map plus_zero (drop 1 ws))) ≡ n + more room gap sum (map plus_zero (drop n ws))
 
+pub take_starts : (ws : List Float) (room gap v : Float) → 0 < length ws → Takes ws room gap v v 1
+take_starts ws room gap v h = record { within = h; some = omega arith; same = omega arith }
+
 more_yes : (room gap sum v : Float) (vs : List Float) → le (add binary32 (add binary32 sum gap) v) room ≡ true → more room gap sum (v ∷ vs) ≡ suc (more room gap (add binary32 (add binary32 sum gap) v) vs)
 unfolding more
 more_yes room gap sum v vs t = rw (t, more)
