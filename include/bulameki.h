@@ -2,7 +2,7 @@
    a call; bulameki_innermost tells which box stands innermost in a band of the page after a tape, bulameki_depth how
    deep that page is, and bulameki_set_words sets a text in lines around its boxes.
 
-   x86-64 only, for C99 and C++. The archive, target/staticlib/libpanel.a, needs nothing at link time but memcpy and
+   x86-64 only, for C99 and C++. The archive, crates/panel/out/libpanel.a, needs nothing at link time but memcpy and
    memset. Nothing is kept from one call to the next, and nothing but the answers is written: several threads may call at
    once, each with an answer room of its own.
 
