@@ -80,8 +80,8 @@ extern "C" {
 
 /* The deepest stack of a call in bytes, its return address counted, and that of bulameki_set_words: measured, as
    docs/SPEED.md says. */
-#define BULAMEKI_STACK 5328
-#define BULAMEKI_WORDS_STACK 21256
+#define BULAMEKI_STACK 5848
+#define BULAMEKI_WORDS_STACK 27960
 
 enum bulameki_kind {
     BULAMEKI_NEW = 0,
