@@ -124,9 +124,9 @@ fn counted(text: &str) -> String {
     copy + READER + APPENDED
 }
 
-/// Links target/staticlib/libNAME.a, where `rt staticlib NAME` left it.
+/// Links crates/NAME/out/libNAME.a, where `rt lib` left it.
 fn archive(root: &Path, name: &str) {
-    let folder = root.join("target/staticlib");
+    let folder = root.join(format!("crates/{name}/out"));
     let file = folder.join(format!("lib{name}.a"));
     println!("cargo:rerun-if-changed={}", file.display());
     if file.exists() {

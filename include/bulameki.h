@@ -2,7 +2,7 @@
    a call; bulameki_innermost tells which box stands innermost in a band of the page after a tape, bulameki_depth how
    deep that page is, and bulameki_set_words sets a text in lines around its boxes.
 
-   x86-64 only, for C99 and C++. The archive, target/staticlib/libpanel.a, needs nothing at link time but memcpy and
+   x86-64 only, for C99 and C++. The archive, crates/panel/out/libpanel.a, needs nothing at link time but memcpy and
    memset. Nothing is kept from one call to the next, and nothing but the answers is written: several threads may call at
    once, each with an answer room of its own.
 
@@ -80,8 +80,8 @@ extern "C" {
 
 /* The deepest stack of a call in bytes, its return address counted, and that of bulameki_set_words: measured, as
    docs/SPEED.md says. */
-#define BULAMEKI_STACK 5328
-#define BULAMEKI_WORDS_STACK 21256
+#define BULAMEKI_STACK 5848
+#define BULAMEKI_WORDS_STACK 27960
 
 enum bulameki_kind {
     BULAMEKI_NEW = 0,

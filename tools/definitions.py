@@ -8,8 +8,9 @@ The form is that of the edits (tools/edits.py); a line `by: JUDGE` names the jud
 it. Each judge but the last is asked in a copy of its own, in which the crates below it are types,
 definitions and the laws that it stands on, so that nothing else can speak there. The table refuses
 a definition when the examples are proved to come out false with it. What all of these let pass is
-held against the proofs of NAME, in the copy where the edits are tried; with --all every judge is
-asked about every one. A definition that is none (a slip of the pen) counts as a failure.
+held against the proofs of NAME, in a copy of all; with --all every judge is asked about every one.
+A definition that is none (a slip of the pen) counts as a failure. The copies stand outside the
+repository, and each is checked by `rt check` over what is proved already.
 
 usage: definitions.py [--all] [--markdown FILE] [NAME[/LABEL] ..]   (from the repository's root)
 --markdown FILE writes the result there as a table.
@@ -19,31 +20,32 @@ import functools
 import re
 import shutil
 import sys
+import tempfile
 from pathlib import Path
 
-from edits import JOBS, ROOT, SCRATCH, copy_crates, dev, first_error, read_edit, spread, verdict
+from edits import JOBS, ROOT, check, copy_crates, double, facts, first_words, is_proved, is_refused, spread, with_edit
 
-COPY = ROOT / "target" / "definitions"
 TABLE, PROMISES, REFUSALS, PROOF = "the table", "the promises", "the refusals", "a proof"
+# where the table is said to come out true
+EXAMPLES = "proofs/Examples.antt"
+
+
+def uses_of(text):
+    """The paths that a source file imports, each with what stands before it."""
+    for head, tree in re.findall(r"^((?:pub )?use )([^;]*);", text, re.M):
+        path, brace, inside = tree.partition("{")
+        for name in inside.rstrip("} \n").split(",") if brace else [tree]:
+            if name.strip():
+                yield head, (path if brace else "") + name.strip()
 
 
 def types_of(text):
     """What a source file declares, without its functions."""
-    items = re.findall(r"^(?:pub )?(?:struct|enum) .*?^}\n", text, re.M | re.S)
+    items = re.findall(r"^(?:#\[derive\([^)]*\)\]\n)?(?:pub )?(?:struct|enum) .*?^}\n", text, re.M | re.S)
     said = "".join(items)
-    uses = [line for line in re.findall(r"^(?:pub )?use .*\b[A-Z]\w*;\n", text, re.M)
-            if re.search(rf"\b{re.findall(r'[A-Za-z_]+', line)[-1]}\b", said)]
+    uses = [f"{head}{path};\n" for head, path in uses_of(text)
+            if re.fullmatch(r"[A-Z]\w*", path.split("::")[-1]) and re.search(rf"\b{path.split('::')[-1]}\b", said)]
     return "// Types alone.\n" + "".join(re.findall(r"^(?:pub )?mod \w+;\n", text, re.M) + uses + items)
-
-
-def below(judge, job):
-    """Where a job asks a judge other than a proof."""
-    return COPY / judge.split()[-1] / str(job)
-
-
-def proofs(job):
-    """Where it asks for one."""
-    return SCRATCH / str(job)
 
 
 def without_functions(crate, kept=()):
@@ -59,15 +61,20 @@ def without_functions(crate, kept=()):
         (crate / "proofs" / f"{file}.antt").write_text(text)
 
 
-def cited(crate, file):
-    """The law files that this one stands on, and itself."""
-    found, left = set(), [file]
+def cited(crate, files):
+    """Those of a crate's law files that these stand on, and these."""
+    found, left = set(), list(files)
     while left:
         file = left.pop()
         if file not in found:
             found.add(file)
-            left += re.findall(rf"^use Rattle·{crate.name}·proofs\.proofs\.(\w+)", (crate / "proofs" / f"{file}.antt").read_text(), re.M)
-    return found
+            left += cites(crate.name, (crate / "proofs" / f"{file}.antt").read_text())
+    return sorted(found)
+
+
+def cites(name, text):
+    """The law files of the crate `name` that a text imports."""
+    return re.findall(rf"^use Rattle\.{name}\.proofs\.(\w+)", text, re.M)
 
 
 def copy_table(where):
@@ -75,10 +82,11 @@ def copy_table(where):
     copy_crates(where)
     for name in ("float", "tape", "demands", "words"):
         without_functions(where / "crates" / name)
-    table = where / "crates" / "marked" / "specs" / "Table.antt"
-    text, count = re.subn(r"^(pub marked-examples : .*) true$", r"\1 false", table.read_text(), flags=re.M)
-    if count != 1:
-        raise SystemExit("definitions: the theorem marked-examples has another form")
+    table = where / "crates" / "marked" / EXAMPLES
+    text, count = re.subn(r"^(pub marked_examples : .*) true$", r"\1 false", table.read_text(), flags=re.M)
+    text, imports = re.subn(r"\btrue}", "true, false}", text)
+    if (count, imports) != (1, 1):
+        raise SystemExit("definitions: the theorem marked_examples has another form")
     table.write_text(text)
 
 
@@ -88,7 +96,7 @@ def copy_promises(where):
     for name in ("float", "tape"):
         without_functions(where / "crates" / name)
     words = where / "crates" / "words"
-    without_functions(words, sorted(cited(words, "Promises")))
+    without_functions(words, cited(words, ["Promises"]))
 
 
 def copy_refusals(where):
@@ -96,57 +104,65 @@ def copy_refusals(where):
     copy_crates(where)
     for name in ("float", "tape", "words"):
         without_functions(where / "crates" / name)
+    laws = [file for path in (where / "crates" / "refusals" / "proofs").glob("*.antt") for file in cites("demands", path.read_text())]
     demands = where / "crates" / "demands"
-    without_functions(demands, sorted(cited(demands, "Tested")))
+    without_functions(demands, cited(demands, laws))
 
 
-COPIES = {TABLE: copy_table, PROMISES: copy_promises, REFUSALS: copy_refusals}
+COPIES = {TABLE: copy_table, PROMISES: copy_promises, REFUSALS: copy_refusals, PROOF: copy_crates}
+
+
+class Rooms:
+    """The copies of each judge, one for each job."""
+
+    def __init__(self, folder):
+        self.folder = Path(folder)
+
+    def of(self, judge, job):
+        return self.folder / judge.split()[-1] / str(job)
 
 
 def tried(where, name, path, asked):
-    """What `rt dev` says of the crate `asked` with the definition changed."""
-    kept = {}
-    try:
-        for file, old, new in read_edit(path):
-            target = where / "crates" / name / file
-            text = target.read_text()
-            kept.setdefault(target, text)
-            if not old or text.count(old) != 1:
-                raise ValueError(f"the 'old:' text stands {text.count(old) if old else 0} times in {file}")
-            target.write_text(text.replace(old, new))
-        return dev(where, asked)
-    finally:
-        for target, text in kept.items():
-            target.write_text(text)
+    """What `rt check` says of the crate `asked` with the definition changed."""
+    return with_edit(where / "crates" / name, path, lambda: check(where, asked))
 
 
-def refused_by_table(job, name, path):
+def is_below(result):
+    """Whether a crate below the one that was asked was refused: it was not built."""
+    return "nothing was built" in result[1]
+
+
+def refused_by_table(where, name, path):
     """The examples come out false; an error elsewhere tells nothing of them."""
-    said = tried(below(TABLE, job), name, path, "marked")
-    if verdict(said) == "logic=not-proved" and "Table.antt" not in said:
-        raise ValueError(f"it is no definition: {first_error(said)[:200]}")
-    return "the examples come out false" if verdict(said) == "logic=proved" else ""
+    result = tried(where, name, path, "marked")
+    if is_proved(result):
+        return "the examples come out false"
+    if is_below(result) or not is_refused(result) or EXAMPLES not in result[1]:
+        raise ValueError(f"it is no definition: {first_words(result[1])[:200]}")
+    return ""
 
 
-def refused_by_theorems(judge, asked, job, name, path):
+def refused_by_theorems(asked, where, name, path):
     """A proof of the crate `asked` fails, and not for a name that is gone."""
-    said = tried(below(judge, job), name, path, asked)
-    words = first_error(said)
-    return words if verdict(said) == "logic=not-proved" and f"/{asked}/proofs/" in said and "is not in scope" not in words else ""
+    result = tried(where, name, path, asked)
+    if not is_refused(result) or is_below(result) and asked != name:
+        return ""
+    return next((f"{place}: {what}" for place, what in facts(result[1]) if place.startswith("proofs/")), "")
 
 
 @functools.cache
-def proved(job, name):
-    """The crate is proved without a change, where the edits are tried."""
-    if verdict(dev(proofs(job), name)) != "logic=proved":
-        raise SystemExit(f"definitions: {name} is not proved as it stands")
+def proved(where, name):
+    """The crate is proved without a change, where it is held against its proofs."""
+    result = check(where, name)
+    if not is_proved(result):
+        raise SystemExit(f"definitions: {name} is not proved as it stands: {first_words(result[1])}")
 
 
-def refused_by_proof(job, name, path):
+def refused_by_proof(where, name, path):
     """A proof of the crate itself fails."""
-    proved(job, name)
-    said = tried(proofs(job), name, path, name)
-    return first_error(said) if verdict(said) == "logic=not-proved" else ""
+    proved(where, name)
+    result = tried(where, name, path, name)
+    return first_words(result[1]) if is_refused(result) and facts(result[1]) else ""
 
 
 def theorems(name):
@@ -156,23 +172,39 @@ def theorems(name):
 
 def judges(name):
     """Whom to ask about a definition of NAME, in this order."""
-    above = [(judge, functools.partial(refused_by_theorems, judge, asked)) for judge, asked in theorems(name).items()]
+    above = [(judge, functools.partial(refused_by_theorems, asked)) for judge, asked in theorems(name).items()]
     return [(TABLE, refused_by_table), *above, (PROOF, refused_by_proof)]
 
 
-def judged(job, name, path, ask_all):
+def judged(rooms, job, name, path, ask_all):
     """Who refuses the definition, and in which words; the judge that it names is asked first."""
     named = re.search(r"^by: (.*)$", path.read_text(), re.M)
     named = named.group(1) if named else ""
     by = {}
     for judge, ask in sorted(judges(name), key=lambda pair: pair[0] != named):
         if not by or ask_all:
-            words = ask(job, name, path)
+            words = ask(rooms.of(judge, job), name, path)
             if words:
                 by[judge] = words
     if named and named not in by:
         raise ValueError(f"{named} must refuse it")
     return by
+
+
+def made(rooms, edits, jobs):
+    """Makes the copies of those judges that may be asked, and looks whether they say what they should of what stands."""
+    asked = {TABLE: "marked", **{judge: crate for name, _ in edits for judge, crate in theorems(name).items()}}
+    for judge, copy in COPIES.items():
+        if judge in asked or judge == PROOF:
+            copy(rooms.of(judge, 1))
+    for judge, crate in sorted({(judge, crate) for name, _ in edits for judge, crate in {TABLE: "marked", **theorems(name)}.items()}):
+        result = check(rooms.of(judge, 1), crate, JOBS)
+        if judge == TABLE and (not is_refused(result) or is_below(result) or EXAMPLES not in result[1]):
+            raise SystemExit(f"definitions: the marked examples do not come out true as they stand: {first_words(result[1])}")
+        if judge != TABLE and not is_proved(result):
+            raise SystemExit(f"definitions: {crate} is not proved as it stands, over definitions: {first_words(result[1])}")
+    for judge in [*asked, PROOF]:
+        double(rooms.of(judge, 1), [rooms.of(judge, job) for job in range(2, jobs + 1)])
 
 
 def main():
@@ -183,39 +215,34 @@ def main():
     words = words.parse_args()
     edits = [(path.parts[-3], path) for path in sorted(ROOT.glob("crates/*/definitions/*.edit"))
              if not words.labels or {path.parts[-3], f"{path.parts[-3]}/{path.stem}"} & set(words.labels)]
-    for judge, copy in COPIES.items():
-        copy(below(judge, 1))
-    if verdict(dev(below(TABLE, 1), "marked")) != "logic=not-proved":
-        raise SystemExit("definitions: the marked examples come out false as they stand")
-    for judge, asked in sorted({pair for name, _ in edits for pair in theorems(name).items()}):
-        if verdict(dev(below(judge, 1), asked)) != "logic=proved":
-            raise SystemExit(f"definitions: {asked} is not proved as it stands")
-    jobs = min(JOBS, len(edits))
-    for job in range(1, jobs + 1):
-        copy_crates(proofs(job))
-        if job > 1:
-            for judge in COPIES:
-                shutil.rmtree(below(judge, job), ignore_errors=True)
-                shutil.copytree(below(judge, 1), below(judge, job))
-
-    def tell(job, edit):
-        name, path = edit
-        label, by = f"{name}/{path.stem}", {}
-        try:
-            by = judged(job, name, path, words.all)
-            told = "refused by " + " and ".join(by) if by else "NOT REFUSED"
-        except ValueError as why:
-            told = f"BAD EDIT: {why}"
-        print(f"definition {label}: {told}", flush=True)
-        return label, path.read_text().splitlines()[0], " and ".join(by)
-
-    rows = spread(edits, jobs, tell)
+    with tempfile.TemporaryDirectory(prefix="bulameki-definitions-") as folder:
+        rows = ask_all(Rooms(folder), edits, words.all)
     failed = [label for label, _, by in rows if not by]
     if words.markdown:
         head = "| Definition | What it says | Refused by |\n|---|---|---|\n"
         words.markdown.write_text(head + "".join("| " + " | ".join(row) + " |\n" for row in rows))
     print(f"definitions: {len(rows) - len(failed)} refused, {len(failed)} not{': ' + ' '.join(failed) if failed else ''}")
     return 1 if failed or not rows else 0
+
+
+def ask_all(rooms, edits, every):
+    """Who refuses each: its name, what it says, and its judges."""
+    jobs = min(JOBS, len(edits))
+    if edits:
+        made(rooms, edits, jobs)
+
+    def tell(job, edit):
+        name, path = edit
+        label, by = f"{name}/{path.stem}", {}
+        try:
+            by = judged(rooms, job, name, path, every)
+            told = "refused by " + " and ".join(by) if by else "NOT REFUSED"
+        except ValueError as why:
+            told = f"BAD EDIT: {why}"
+        print(f"definition {label}: {told}", flush=True)
+        return label, path.read_text().splitlines()[0], " and ".join(by)
+
+    return spread(edits, jobs, tell)
 
 
 if __name__ == "__main__":

@@ -2,14 +2,16 @@
 """Tries the edits of crates/NAME/edits/*.edit: the prover must refuse each, because a fact fails.
 
 The form is that of rt's must-fail edits: an explaining line, `file: src/x.rt`, `old: text` (which
-stands there exactly once) and `new: text`; several pairs may follow. rt tries a must-fail edit by
-a whole check of its crate, a minute and more for `float`. Here each edit is checked over what is
-proved already (`rt dev`), in seconds: a refusal is a refusal either way, and the crate without the
-edit must be proved first. An edit that only makes a proof file unfit for the code ("has no
-`Need-..`"), or the code such as the kit does not cover ("has no `Tie`"), shows nothing and counts
-as a failure.
+stands there exactly once) and `new: text`; several pairs may follow. `rt ci` tries must-fail edits
+itself, at the gate and at each merge; these are many, and are tried here, each by `rt check` in a
+copy of the repository over what is proved already, in seconds: first of the functions that it
+changes alone, and of the whole crate where nothing is refused there. The crate without the edit must
+be proved first. An edit that only makes a proof file unfit for the code ("has no field", "is not in
+scope"), that cannot be read, or that only meets a limit of the prover shows nothing and counts as a
+failure.
 
 usage: edits.py [NAME[/LABEL] ..]   (from the repository's root; no name: every crate that has edits)
+RT_JOBS says how many are tried at once: as many as there are processors, at most 4, if left out.
 """
 import concurrent.futures
 import itertools
@@ -19,12 +21,17 @@ import re
 import shutil
 import subprocess
 import sys
+import tempfile
 from pathlib import Path
 
 ROOT = Path(__file__).resolve().parent.parent
-SCRATCH = ROOT / "target" / "edits"
-JOBS = int(os.environ.get("RT_JOBS", "2"))
-UNFIT = ("has no `Need-", "has no `Tie`", "has no field")
+JOBS = int(os.environ.get("RT_JOBS") or min(4, len(os.sched_getaffinity(0))))
+# a line that says what is refused, and where
+TOLD = re.compile(r"(?P<note>note: )?(?:\S*?/crates/\w+/|\./)?(?P<where>(?:src|specs|proofs)/\S+?)(?::\d+:\d+)?: (?P<error>error: )?(?P<what>.*)")
+# what only says that a name is gone, or that a declaration stands on one that was refused
+UNFIT = re.compile(r"has no field|has no `|is not in scope|is no name|exports no `|was not admitted|was rejected|which were rejected")
+# what antt says of a text that it cannot read
+UNREAD = re.compile(r"is not in scope|has no field|is no name|operand is missing|expected the end|cannot continue")
 
 
 def read_edit(path):
@@ -43,69 +50,158 @@ def read_edit(path):
     return pairs
 
 
-def copy_crates(where):
-    """The repository's crates in a folder of their own; what was proved, there or here, need not be proved again."""
-    where.mkdir(parents=True, exist_ok=True)
-    for part in ("rlib", "stamp"):
-        if (ROOT / "target" / part).is_dir():
-            shutil.copytree(ROOT / "target" / part, where / "target" / part, dirs_exist_ok=True)
-    shutil.rmtree(where / "crates", ignore_errors=True)
-    shutil.copytree(ROOT / "crates", where / "crates", ignore=shutil.ignore_patterns("edits"))
+def applied(crate, pairs):
+    """The changed files of a crate's folder, and what they were."""
+    was, now = {}, {}
+    for file, old, new in pairs:
+        target = crate / file
+        if target not in was:
+            was[target] = now[target] = target.read_text()
+        if not old or now[target].count(old) != 1:
+            raise ValueError(f"the 'old:' text stands {now[target].count(old) if old else 0} times in {file}")
+        now[target] = now[target].replace(old, new)
+    if now == was:
+        raise ValueError("it changes nothing")
+    return was, now
+
+
+def with_edit(crate, path, call):
+    """What a call gives with an edit applied to a crate's folder, which is put back."""
+    was, now = applied(crate, read_edit(path))
+    try:
+        for target, text in now.items():
+            target.write_text(text)
+        return call()
+    finally:
+        for target, text in was.items():
+            target.write_text(text)
+
+
+def link_or_copy(one, other):
+    """What was proved gets a second name: a check replaces such a file, and never writes into it."""
+    if one.endswith(".oantt"):
+        try:
+            return os.link(one, other)
+        except OSError:
+            pass
+    return shutil.copy2(one, other)
+
+
+def copy_crates(where, kept=True):
+    """The repository's crates in a folder of their own, with what was proved of them here if `kept`."""
+    left_out = shutil.ignore_patterns("edits", "definitions", "must-fail", "rt-work-*", *([] if kept else ["out"]))
+    shutil.copytree(ROOT / "crates", where / "crates", ignore=left_out, copy_function=link_or_copy)
     shutil.copy(ROOT / "crates.txt", where / "crates.txt")
 
 
-def dev(where, name):
-    """What `rt dev NAME` printed there."""
-    run = subprocess.run(["rt", "dev", name], cwd=where, stdout=subprocess.PIPE, stderr=subprocess.STDOUT,
-                         env=dict(os.environ, RT_CUT="1500"))
-    return run.stdout.decode("utf-8", "replace")
+def check(where, name, jobs=1, only=()):
+    """The status and the words of `rt check` of a crate there, or of some functions of it."""
+    words = ["rt", "check", "--jobs", str(jobs), *[word for path in only for word in ("--only", path)]]
+    run = subprocess.run(words, cwd=where / "crates" / name, stdin=subprocess.DEVNULL, stdout=subprocess.PIPE, stderr=subprocess.STDOUT)
+    return run.returncode, run.stdout.decode("utf-8", "replace")
 
 
 def verdict(said):
-    lines = [line for line in said.splitlines() if line.startswith("logic=") or line.startswith("rattle:")]
-    return lines[-1].split()[0] if lines else "no verdict"
+    """The last line that says how much is proved."""
+    return ([line for line in said.splitlines() if line.startswith(("logic=", "only="))] or [""])[-1]
 
 
-def first_error(said):
-    """The words of the first error that does not only follow from another, or of the first need that no proof was found for."""
-    lines = said.splitlines()
+def is_proved(result):
+    return result[0] == 0 and verdict(result[1]).startswith("logic=proved ")
+
+
+def is_refused(result):
+    """Whether the prover read all and refused something."""
+    last = verdict(result[1])
+    some = re.fullmatch(r"only=(\d+) proved=(\d+)", last)
+    return result[0] == 1 and (last == "logic=not-proved" or some is not None and int(some[2]) < int(some[1]))
+
+
+def told(said, notes=True):
+    """What is refused, each with where: errors, and with `notes` what is not proved."""
+    found, lines = [], said.splitlines()
     for at, line in enumerate(lines):
-        found = re.match(r"(?:\S+?/crates/\w+/)?(\S+): error: (.*)", line)
-        if found and "was not admitted" not in line:
+        one = TOLD.match(line)
+        if one and (one["error"] or notes and one["note"]):
             rest = [more.strip() for more in itertools.takewhile(lambda more: more.startswith("  "), lines[at + 1:])]
-            return " ".join([f"{found.group(1)}:", found.group(2)] + rest)
-    for line in lines:
-        found = re.match(r"note: \S+/crates/\w+/(\S+: it is not proved that .*)", line)
-        if found:
-            return found.group(1)
-    return "no error was printed"
+            found.append((one["where"], " ".join([one["what"]] + rest[:4])))
+    return found
+
+
+def facts(said):
+    """What says more than that a name is gone."""
+    return [(where, what) for where, what in told(said) if not UNFIT.search(what)]
+
+
+def unread(said, files):
+    """An error that shows that one of these files, or the code, or a definition, could not be read."""
+    for where, what in told(said, notes=False):
+        named = re.match(r"`[^`]*`: (.*)", what)
+        if (where in files or where.startswith(("src/", "specs/"))) and (not named or UNREAD.search(re.sub(r"`[^`]*`", "", named[1]))):
+            return f"{where}: {what}"
+    return ""
+
+
+def first_words(said):
+    """The first thing that was said against the crate."""
+    found = facts(said) or told(said)
+    if found:
+        return ": ".join(found[0])
+    lines = [line for line in said.splitlines() if re.search(r"error|: not proved|rt: ", line)]
+    return (lines or said.splitlines()[-1:] or ["nothing was said"])[0]
+
+
+def functions(crate, pairs):
+    """The functions that an edit of code changes, by the ends of their paths; none where it changes something else."""
+    now, found = {}, []
+    for file, old, new in pairs:
+        text = now.setdefault(file, (crate / file).read_text())
+        at = text.find(old)
+        heads = [] if not file.endswith(".rt") else [*re.finditer(r"^( *)(?:pub(?:\(\w+\))? )?(?:extern \"C\" )?fn (\w+)", text[:at + len(old)], re.M)]
+        if not heads or at < 0:
+            return []
+        indent, name = heads[-1].groups()
+        if re.search(rf"^{indent}}}", text[heads[-1].start():at], re.M):
+            return []
+        owner = re.findall(r"^impl\b[^{]*?(\w+)(?:<[^{]*>)? *{", text[:at], re.M)[-1] if indent else Path(file).stem
+        found.append(name if owner == "lib" else f"{owner}::{name}")
+        now[file] = text.replace(old, new)
+    return list(dict.fromkeys(found))
+
+
+def judged(result, files):
+    """Whether a check refused a fact of a crate with an edit in these files, and what to say."""
+    status, said = result
+    if is_proved(result):
+        return False, "NOT REFUSED: the crate is still proved with this edit"
+    bad = unread(said, files)
+    if bad:
+        return False, f"BAD EDIT: it cannot be read: {bad}"
+    if not is_refused(result):
+        return False, f"BAD EDIT: it did not reach the prover (status {status}): {first_words(said)}"
+    found = facts(said)
+    if not found:
+        return False, f"SHOWS NOTHING: {first_words(said)}"
+    return True, f"refused: {': '.join(found[0])}"
 
 
 def try_edit(where, name, path):
     """Whether the edit is refused because a fact fails, and what to say of it."""
-    crate, kept = where / "crates" / name, {}
+    crate = where / "crates" / name
+
+    def ask(files, only):
+        if only:
+            good, words = judged(check(where, name, only=only), files)
+            if good:
+                return good, words
+        return judged(check(where, name), files)
+
     try:
-        for file, old, new in read_edit(path):
-            target = crate / file
-            text = target.read_text()
-            kept.setdefault(target, text)
-            if not old or text.count(old) != 1:
-                return False, f"BAD EDIT: the 'old:' text stands {text.count(old) if old else 0} times in {file}"
-            target.write_text(text.replace(old, new))
-        said = dev(where, name)
-    except (ValueError, OSError, TypeError) as why:
+        pairs = read_edit(path)
+        only = functions(crate, pairs)
+        return with_edit(crate, path, lambda: ask({file for file, _, _ in pairs}, only))
+    except (ValueError, OSError) as why:
         return False, f"BAD EDIT: {why}"
-    finally:
-        for target, text in kept.items():
-            target.write_text(text)
-    words = first_error(said)
-    if verdict(said) == "logic=proved":
-        return False, "NOT REFUSED: the crate is still proved with this edit"
-    if verdict(said) != "logic=not-proved":
-        return False, f"BAD EDIT: it did not reach the prover: {words}"
-    if any(sign in words for sign in UNFIT):
-        return False, f"SHOWS NOTHING: {words}"
-    return True, f"refused: {words[:200]}"
 
 
 def spread(items, jobs, one):
@@ -125,6 +221,12 @@ def spread(items, jobs, one):
         return list(pool.map(run, items))
 
 
+def double(first, others):
+    """Copies a folder of crates with what was proved there."""
+    for other in others:
+        shutil.copytree(first, other, copy_function=link_or_copy)
+
+
 def main():
     wanted = sys.argv[1:]
     edits = []
@@ -133,23 +235,23 @@ def main():
         if not wanted or name in wanted or f"{name}/{label}" in wanted:
             edits.append((name, label, path))
     jobs = min(JOBS, len(edits))
-    if edits:
-        first = SCRATCH / "1"
-        copy_crates(first)
-        for name in sorted({name for name, _, _ in edits}):
-            if verdict(dev(first, name)) != "logic=proved":
-                raise SystemExit(f"edits: {name} is not proved without an edit")
-        for job in range(2, jobs + 1):
-            shutil.rmtree(SCRATCH / str(job), ignore_errors=True)
-            shutil.copytree(first, SCRATCH / str(job))
+    with tempfile.TemporaryDirectory(prefix="bulameki-edits-") as folder:
+        rooms = [Path(folder) / str(job) for job in range(1, jobs + 1)]
+        if edits:
+            copy_crates(rooms[0])
+            for name in sorted({name for name, _, _ in edits}):
+                result = check(rooms[0], name, JOBS)
+                if not is_proved(result):
+                    raise SystemExit(f"edits: {name} is not proved without an edit: {first_words(result[1])}")
+            double(rooms[0], rooms[1:])
 
-    def tried(job, edit):
-        name, label, path = edit
-        good, words = try_edit(SCRATCH / str(job), name, path)
-        print(f"edit {name}/{label}: {words}", flush=True)
-        return good
+        def tried(job, edit):
+            name, label, path = edit
+            good, words = try_edit(rooms[job - 1], name, path)
+            print(f"edit {name}/{label}: {words[:240]}", flush=True)
+            return good
 
-    good = spread(edits, jobs, tried)
+        good = spread(edits, jobs, tried)
     failed = [f"{name}/{label}" for (name, label, _), passed in zip(edits, good) if not passed]
     print(f"edits: {len(edits) - len(failed)} refused, {len(failed)} not{': ' + ' '.join(failed) if failed else ''}")
     return 1 if failed or not edits else 0

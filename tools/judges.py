@@ -3,7 +3,7 @@
 
     judges.py [--instructions N] [--seed N] [--only PATTERN] [--list]
 
-Run by hand and before a landing, not in the gate. It needs target/staticlib/libpanel.a, taffy's float.rs and objdump. The
+Run by hand and before a landing, not in the gate. It needs crates/panel/out/libpanel.a, taffy's float.rs and objdump. The
 constants of the archive are changed all: each number that is compared with or moved, each float and each word of a table,
 one more and one less by its bits. Of its instructions a sample of N (300) is changed: a condition turned round or made
 strict, a sum made a difference, the larger made the smaller, what is added, shifted or masked one more or less, a store or
@@ -21,7 +21,7 @@ from collections import Counter, namedtuple
 from pathlib import Path
 
 ROOT = Path(__file__).resolve().parent.parent
-ARCHIVE = ROOT / 'target/staticlib/libpanel.a'
+ARCHIVE = ROOT / 'crates/panel/out/libpanel.a'
 CROSS = 'x86_64-linux-gnu-'
 
 Instruction = namedtuple('Instruction', 'function at data text')

@@ -7,7 +7,7 @@ fn what_is_missing_is_said() {
     }
     for (part, here) in [("panel", cfg!(has_panel)), ("probe", cfg!(has_probe))] {
         if !here {
-            host::say(&format!("target/staticlib/lib{part}.a is not there: its tests are not run"));
+            host::say(&format!("crates/{part}/out/lib{part}.a is not there: its tests are not run"));
         }
     }
 }

@@ -133,7 +133,7 @@ mod run {
 
     /// The bytes of code and constants that `size` finds in the archive.
     fn code() -> Option<usize> {
-        let archive = concat!(env!("CARGO_MANIFEST_DIR"), "/../target/staticlib/libpanel.a");
+        let archive = concat!(env!("CARGO_MANIFEST_DIR"), "/../crates/panel/out/libpanel.a");
         let output = Command::new("size").arg(archive).output().ok()?;
         let text = String::from_utf8(output.stdout).ok()?;
         text.lines().nth(1)?.split_whitespace().next()?.parse().ok()
@@ -202,6 +202,6 @@ fn main() -> std::process::ExitCode {
 
 #[cfg(not(all(has_taffy, has_panel)))]
 fn main() -> std::process::ExitCode {
-    host::say("the bench needs taffy's float.rs and target/staticlib/libpanel.a");
+    host::say("the bench needs taffy's float.rs and crates/panel/out/libpanel.a");
     std::process::ExitCode::FAILURE
 }

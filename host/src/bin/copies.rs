@@ -114,6 +114,6 @@ fn main() {
 
 #[cfg(not(all(has_taffy, has_panel)))]
 fn main() -> std::process::ExitCode {
-    host::say("the copies need taffy's float.rs and target/staticlib/libpanel.a");
+    host::say("the copies need taffy's float.rs and crates/panel/out/libpanel.a");
     std::process::ExitCode::FAILURE
 }

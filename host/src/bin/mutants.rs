@@ -3,7 +3,7 @@
 
 #[cfg(not(all(has_taffy, has_panel)))]
 fn main() {
-    host::say("this needs taffy's float.rs and target/staticlib/libpanel.a");
+    host::say("this needs taffy's float.rs and crates/panel/out/libpanel.a");
 }
 
 #[cfg(all(has_taffy, has_panel))]
