@@ -9,14 +9,16 @@ Lines: those added and removed in specs, src and proofs of each crate that moved
 is new (of the lines after) and gone (of the lines before). As in docs/STATEMENTS.md, part 8, a comment, a use line, a
 blank and a file Lib.antt count nothing. A file that only moved counts nothing.
 
---log: rt ci's seconds of each crate, the gate's verdict and whole time, the memory of float's check. A log is what
-the gate printed; the last two figures stand in it when it was written so (Debian's package time):
+--log: the gate's verdict and whole time, the memory of float's check, and each crate's seconds. A log is what the gate
+printed; the last two stand in it when each crate's verdict, from nothing, is written behind it so (Debian's package time):
 
     /usr/bin/time -v bash .ci/run > gate.log 2>&1
-    rm target/stamp/float
-    /usr/bin/time -v rt check float >> gate.log 2>&1
+    for name in f32_laws float ..; do
+        (cd crates/$name && /usr/bin/time -v rt verdict $name) >> gate.log 2>&1
+    done
 
-The whole time is also read from a line `ci: 1020 s`, or from bash's `real 17m0.000s`.
+The whole time is also read from a line `ci: 1020 s`, or from bash's `real 17m0.000s`; a crate's seconds also from a line
+`rt: NAME proved (79 s)`, and the memory from `rt check float`, as in logs of an older kit.
 
 --bench: the four main ratios to the crate, by time and by instructions, from the bench's --markdown output, or from a
 paper that holds it (docs/SPEED.md); the whole job is that of the longest tape.
@@ -33,6 +35,7 @@ import tarfile
 from collections import Counter
 
 PARTS = ('specs', 'src', 'proofs')
+ELAPSED = r'^\s*Elapsed \(wall clock\) time .*: ([\d:.]+)$'
 IDLE = re.compile(r' *(--|//|use |ghost use |$)')  # a line that counts nothing
 RATIOS = {'placement at 64': 'a placement, page of 64', 'content': 'a content question, page of 64',
           'BFC': 'a BFC question, page of 64', 'whole job': 'whole job: pages of 64'}
@@ -103,7 +106,7 @@ def crates_of(*commits):
     """The crates of the commits in the order of crates.txt, the last commit's first."""
     names = []
     for commit in reversed(commits):
-        names += re.findall(r'^(\w+):', git('show', f'{commit}:crates.txt').decode(), re.M)
+        names += re.findall(r'^(\w+)(?: [^:\n]*)?:', git('show', f'{commit}:crates.txt').decode(), re.M)
     return list(dict.fromkeys(names))
 
 
@@ -154,6 +157,12 @@ def timed(log, command):
     return next((block for block in reversed(blocks) if block.startswith(f'"{command}"\n')), '')
 
 
+def elapsed(block):
+    """The whole seconds of a timed command, or none."""
+    found = figure(ELAPSED, block)
+    return round(seconds(found)) if found else None
+
+
 def figure(pattern, text):
     """The last figure of this form in a text, or none."""
     found = re.findall(pattern, text, re.M)
@@ -165,19 +174,21 @@ def log_figures(name):
     with open(name, encoding='utf-8', errors='replace') as file:
         log = file.read()
     crates = {}
-    for crate, time in re.findall(r'^rt: (\w+) proved \((\d+) s\)$', log, re.M):
-        crates.setdefault(crate, int(time))  # rt ci comes first; a later step may prove a crate again
+    for crate, time in re.findall(r'^rt: (\w+) proved(?: \((\d+) s\))?$', log, re.M):
+        # rt ci comes first; a later step may prove a crate again
+        crates.setdefault(crate, int(time) if time else elapsed(timed(log, f'rt verdict {crate}')))
     if not crates:
-        raise Bad(f"{name}: no line 'rt: NAME proved (N s)': this is no gate log")
+        raise Bad(f"{name}: no line 'rt: NAME proved': this is no gate log")
     # rt ci ends in a verdict too: the gate's own stands below its last step
     _, step, end = log.rpartition('\nci: ')
     verdict = figure(r'^(\d+ passed, \d+ failed)$', end if step else '')
-    time = (figure(r'^\s*Elapsed \(wall clock\) time .*: ([\d:.]+)$', timed(log, 'bash .ci/run'))
-            or figure(r'^ci: (\d+) s$', log) or figure(r'^real\s+([\dm.]+s)$', log))
-    memory = figure(r'^\s*Maximum resident set size \(kbytes\): (\d+)$', timed(log, 'rt check float'))
+    time = figure(ELAPSED, timed(log, 'bash .ci/run')) or figure(r'^ci: (\d+) s$', log) or figure(r'^real\s+([\dm.]+s)$', log)
+    memory = figure(r'^\s*Maximum resident set size \(kbytes\): (\d+)$', timed(log, 'rt verdict float') or timed(log, 'rt check float'))
+    known = [time for time in crates.values() if time is not None]
     return {'verdict': verdict or '-', 'time': minutes(time) if time else '-',
             'float, memory': f'{int(memory) * 1024 / 1e9:.2f} GB' if memory else '-',
-            'all crates': f'{sum(crates.values())} s', **{crate: f'{time} s' for crate, time in crates.items()}}
+            'all crates': f'{sum(known)} s' if known else '-',
+            **{crate: '-' if time is None else f'{time} s' for crate, time in crates.items()}}
 
 
 def beside(what, before, after):

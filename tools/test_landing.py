@@ -22,7 +22,7 @@ BEFORE = {
     'docs/A.md': 'x\n',
 }
 AFTER = {
-    'crates.txt': '# NAME: DEP ..\nlaws:\nplace: laws\nnew: laws\n',
+    'crates.txt': '# NAME: DEP ..\nlaws:\nplace: laws\nnew staticlib: laws\n',
     'crates/laws/specs/A.antt': '-- another comment\nuse Lib.B\n\n\nx1\nx2\n',
     'crates/laws/proofs/Deep/P2.antt': ''.join(f'x{n}\n' for n in range(10)),
     'crates/place/src/lib.rt': '// a comment\nghost use a;\nuse c;\nx1\n    x3\n    x4\n',
@@ -41,7 +41,7 @@ LINES = '''\
 | all | 0 | +2 -1 | +6 -4 | 16 | 18 | 33 % | 25 % |
 '''
 
-CI_LOG = '''\
+OLD_LOG = '''\
 fn place::a: proved
 rt: laws proved (1 s)
 rt: place proved (79 s)
@@ -49,9 +49,19 @@ rt: must-fail laws/edit: refused, as it must be (first at proofs/P.antt:1:1; 2 s
 rt: ok, 2 crates proved, 1 must-fail edits refused
 28 passed, 0 failed
 '''
+CI_LOG = '''\
+== laws
+rt: laws proved
+== place
+fn place::a: proved
+rt: place proved
+rt: must-fail laws/e.edit: refused, as it must be: ./proofs/P.antt:1:1: error: `p`: no
+rt: ok; handles allowed: none; must-fail edits: 1 refused; every proof and must-fail edit was done in this run
+28 passed, 0 failed
+'''
 STEPS = '''\
-ci: rt fmt --check
-rt: place proved (5 s)
+ci: edits that the prover must refuse
+rt: place proved
 ci: ./place on the sample tapes
 '''
 TIMED = '''\
@@ -138,8 +148,23 @@ class Landing(unittest.TestCase):
     def test_logs(self):
         before = self.file('before.log', CI_LOG + STEPS + '37 passed, 0 failed\n'
                            + TIMED.format('bash .ci/run', '17:03.25', 777)
+                           + TIMED.format('rt verdict laws', '0:01.30', 100)
+                           + TIMED.format('rt verdict place', '1:19.00', 200)
+                           + TIMED.format('rt verdict float', '1:20.00', 1200000))
+        after = self.file('after.log', CI_LOG.replace('laws proved', 'more proved') + STEPS + 'ci: 59 s\n38 passed, 1 failed\n'
+                          + TIMED.format('rt verdict place', '0:59.60', 200))
+        self.assertEqual(self.tables('before', 'after', '--log', before, after)[1], '''\
+| Gate | verdict | time | float, memory | all crates | more | place | laws |
+|---|--:|--:|--:|--:|--:|--:|--:|
+| before | 37 passed, 0 failed | 17 min 3 s | 1.23 GB | 80 s | - | 79 s | 1 s |
+| after | 38 passed, 1 failed | 59 s | - | 60 s | - | 60 s | - |
+''')
+
+    def test_logs_of_an_older_kit(self):
+        before = self.file('before.log', OLD_LOG + STEPS + '37 passed, 0 failed\n'
+                           + TIMED.format('bash .ci/run', '17:03.25', 777)
                            + TIMED.format('rt check float', '1:19.00', 1200000))
-        after = self.file('after.log', CI_LOG.replace('79', '60').replace('laws proved', 'more proved') + STEPS
+        after = self.file('after.log', OLD_LOG.replace('79', '60').replace('laws proved', 'more proved') + STEPS
                           + 'ci: 59 s\n38 passed, 1 failed\n')
         self.assertEqual(self.tables('before', 'after', '--log', before, after)[1], '''\
 | Gate | verdict | time | float, memory | all crates | more | place | laws |
@@ -151,7 +176,7 @@ class Landing(unittest.TestCase):
     def test_whole_time(self):
         for said, time in (('\nreal\t17m3.250s\nuser\t1m0.000s\n', '17 min 3 s'), ('ci: 3600 s\n', '60 min 0 s'), ('', '-'),
                            (TIMED.format('bash .ci/run', '1:02:03', 1), '62 min 3 s'),
-                           (TIMED.format('rt check float', '1:02:03', 1), '-')):
+                           (TIMED.format('rt verdict float', '1:02:03', 1), '-')):
             log = self.file('time.log', CI_LOG + STEPS + said)
             table = self.tables('before', 'after', '--log', log, log)[1]
             self.assertEqual(table.splitlines()[2].split(' | ')[2], time)
