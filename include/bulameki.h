@@ -2,9 +2,9 @@
    a call; bulameki_innermost tells which box stands innermost in a band of the page after a tape, bulameki_depth how
    deep that page is, and bulameki_set_words sets a text in lines around its boxes.
 
-   x86-64 only, for C99 and C++. The archive, crates/panel/out/libpanel.a, needs nothing at link time but memcpy and
-   memset. Nothing is kept from one call to the next, and nothing but the answers is written: several threads may call at
-   once, each with an answer room of its own.
+   x86-64 only, for C99 and C++; the archive, crates/panel/out/libpanel.a, is compiled for x86-64-v2, so the processor
+   needs SSE 4.2. At link time it needs nothing but memcpy and memset. Nothing is kept from one call to the next, and
+   nothing but the answers is written: several threads may call at once, each with an answer room of its own.
 
    WHAT A CALL NEEDS, of each function.
      - Stack: at most BULAMEKI_STACK bytes, for bulameki_set_words BULAMEKI_WORDS_STACK, whatever the tape and the text.
@@ -13,8 +13,7 @@
        interrupt handler may not push onto this stack, unless it first steps over them. No heap, no static memory.
      - Time: it grows with the tape's length, and the text's, and is bounded. The worst tape found for version 0.1.0,
        65,536 bytes of kind 0, took it 14 ms on a server of two cores, and 27 ms in a room that was just enough, where a
-       tape is run twice. Since version 0.2.0 it takes a ninth of the instructions for a fresh page and its width; not
-       timed since.
+       tape is run twice. Version 0.2.0 took a ninth of the instructions for a fresh page and its width; not timed since.
      - A floating-point environment as C and the ABI start one (MXCSR 0x1F80): rounding to nearest, subnormals neither
        flushed to zero nor read as zero, all exceptions masked. In another one answers are wrong, pictures may lie over
        each other, and an unmasked exception ends the program at the first NaN. Linking with -ffast-math is enough to
@@ -78,8 +77,8 @@ extern "C" {
 /* This header and the archive are of one version; CHANGELOG.md says what each brought. */
 #define BULAMEKI_VERSION "0.6.0"
 
-/* The deepest stack of a call in bytes, its return address counted, and that of bulameki_set_words: measured, as
-   docs/SPEED.md says. */
+/* The deepest stack of a call in bytes, its return address counted, and that of bulameki_set_words: measured of the
+   archive as rattle-kit-13f compiles it, as docs/SPEED.md says. */
 #define BULAMEKI_STACK 5848
 #define BULAMEKI_WORDS_STACK 27960
 
