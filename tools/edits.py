@@ -28,8 +28,10 @@ ROOT = Path(__file__).resolve().parent.parent
 JOBS = int(os.environ.get("RT_JOBS") or min(4, len(os.sched_getaffinity(0))))
 # a line that says what is refused, and where
 TOLD = re.compile(r"(?P<note>note: )?(?:\S*?/crates/\w+/|\./)?(?P<where>(?:src|specs|proofs)/\S+?)(?::\d+:\d+)?: (?P<error>error: )?(?P<what>.*)")
-# what only says that a name is gone, or that a declaration stands on one that was refused
-UNFIT = re.compile(r"has no field|has no `|is not in scope|is no name|exports no `|was not admitted|was rejected|which were rejected")
+# what only follows from another refusal
+FOLLOWS = re.compile(r"declarations? that depends? on .* not checked|was not admitted")
+# what only says that a name is gone
+GONE = re.compile(r"has no field|has no `|is not in scope|is no name|exports no `")
 # what antt says of a text that it cannot read
 UNREAD = re.compile(r"is not in scope|has no field|is no name|operand is missing|expected the end|cannot continue")
 
@@ -118,11 +120,11 @@ def is_refused(result):
 
 
 def told(said, notes=True):
-    """What is refused, each with where: errors, and with `notes` what is not proved."""
+    """What is refused and does not follow from another, each with where: errors, and with `notes` what is not proved."""
     found, lines = [], said.splitlines()
     for at, line in enumerate(lines):
         one = TOLD.match(line)
-        if one and (one["error"] or notes and one["note"]):
+        if one and (one["error"] or notes and one["note"]) and not FOLLOWS.search(one["what"]):
             rest = [more.strip() for more in itertools.takewhile(lambda more: more.startswith("  "), lines[at + 1:])]
             found.append((one["where"], " ".join([one["what"]] + rest[:4])))
     return found
@@ -130,7 +132,7 @@ def told(said, notes=True):
 
 def facts(said):
     """What says more than that a name is gone."""
-    return [(where, what) for where, what in told(said) if not UNFIT.search(what)]
+    return [(where, what) for where, what in told(said) if not GONE.search(what)]
 
 
 def unread(said, files):
@@ -155,6 +157,8 @@ def functions(crate, pairs):
     """The functions that an edit of code changes, by the ends of their paths; none where it changes something else."""
     now, found = {}, []
     for file, old, new in pairs:
+        if re.match("proofs/.*/", file):
+            continue  # what a function's proof says of it goes along
         text = now.setdefault(file, (crate / file).read_text())
         at = text.find(old)
         heads = [] if not file.endswith(".rt") else [*re.finditer(r"^( *)(?:pub(?:\(\w+\))? )?(?:extern \"C\" )?fn (\w+)", text[:at + len(old)], re.M)]
