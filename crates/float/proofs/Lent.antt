@@ -40,8 +40,8 @@ use Rattle.float.specs.declared.PlaceAnswer.{PlaceAnswer}
 use Rattle.float.specs.Place.{Call, place_of}
 use Rattle.float.specs.contracts.FloatContext as T
 use Rattle.float.specs.contracts.PlaceAnswer as E
-use Rattle.float.specs.contracts.FloatContext.place_in as IsPlace-in
-use Rattle.float.specs.contracts.FloatContext.place_in.Key.{name as #place-in}
+use Rattle.float.specs.contracts.FloatContext.place_in as place_in_is
+use Rattle.float.specs.contracts.FloatContext.place_in.Key.{name as #place_in}
 
 -- the numbers of a call: width, height, min_y, left, right, side, clear
 abbrev pub numbers : List RattleType
@@ -80,7 +80,7 @@ module _ {M : Type 1} {𝓤 : Ura M} (𝓛 : Logic 𝓤) where
       owns_make 𝓛 numbers (Ises numbers) (x, (x, (x, (x, (x, (k, (k, tt))))))) ns (valss numbers spells ns)
 
   abbrev pub PlaceIn : (Memory → SProp 𝓤) → (Routine → Fun 𝓤) → Contract 𝓤
-  PlaceIn at_mem run = triple_of 𝓛 IsPlace-in.signature (IsPlace-in.spec 𝓛 at_mem run)
+  PlaceIn at_mem run = triple_of 𝓛 place_in_is.signature (place_in_is.spec 𝓛 at_mem run)
 
 -- the page in the block b is h before the call
 module _ {M : Type 1} {𝓤 : Ura M} (𝓛 : Logic 𝓤) (at_mem : Memory → SProp 𝓤) (run : Routine → Fun 𝓤) (b : ℕ) (h : FloatContext) (ns : Denots numbers) where
@@ -101,17 +101,17 @@ module _ {M : Type 1} {𝓤 : Ura M} (𝓛 : Logic 𝓤) (at_mem : Memory → SP
       use0 𝓛 (‵ (owns numbers ns vs)) (made 𝓛 ns are) $ move ! (2 ∷ 0 ∷ []) $ fjoin ! $ nothing ! $ move ! (2 ∷ 0 ∷ []) $ join ! $ join ! $ frame ! $ done !
 
   pub lent : {K : Type 0} {Γ : List (Item 𝓤)} {C : Calls 𝓤 H} {Λ : Loops 𝓤 H} {En : Env 𝓤 H} {q : After 𝓤 H} {xs : List Operand} {d : Place} {rest : Body}
-      → K → FmC 𝓤 H 𝓛.laws C → Triple 𝓤 (C #place-in) (PlaceIn 𝓛 at_mem run) → AreNumbers ns → (v : Val)
+      → K → FmC 𝓤 H 𝓛.laws C → Triple 𝓤 (C #place_in) (PlaceIn 𝓛 at_mem run) → AreNumbers ns → (v : Val)
       → ((α : ℕ) (γ : GName) → Opds K 𝓛 (raw ((PlaceIn 𝓛 at_mem run).pre (to α γ)) ∷ ‵ (flent (α ∷ []) (Held (mem T.the_row) b 0 γ)) ∷ Γ) En xs (vptr b 0 ∷ flat numbers vs))
       → ((a : PlaceAnswer) (p : FloatContext) (y u : Val) → Says a p h ns → Seq K 𝓛 (‵ (fat full_share τ b 0 u) ∷ ‵ ((T.the_row).own_val p (u ∷ [])) ∷ ‵ ((E.the_row).own_val a (y ∷ [])) ∷ Γ) (lands C Λ En d y rest q))
-      → Seq K 𝓛 (‵ (fat full_share τ b 0 v) ∷ ‵ ((T.the_row).own_val h (v ∷ [])) ∷ Γ) (runs C Λ En (seq (call #place-in xs d) rest) q)
+      → Seq K 𝓛 (‵ (fat full_share τ b 0 v) ∷ ‵ ((T.the_row).own_val h (v ∷ [])) ∷ Γ) (runs C Λ En (seq (call #place_in xs d) rest) q)
   lent t fm known are v o k =
       use2 𝓛 (‵ ((mem T.the_row).own_at h b 0)) (part_in 𝓛 T.the_row refl full_share h b 0 v) $ lft_new t tt (λ α. move t (1 ∷ []) $
       use1 𝓛 (later (some (λ (γ : GName). ‵ ((MutRef (named 0) (α ∷ []) T.the_row).own_val (ref γ) (vptr b 0 ∷ [])) ⊛ ‵ (flent (α ∷ []) (Held (mem T.the_row) b 0 γ))))) (lends_ref 𝓛 T.the_row (named 0) (α ∷ []) h b 0) $ await t tt $ pick t (λ γ. split t $
       -- [the reference; the lender's part; the token; …]
       move t (2 ∷ 0 ∷ []) $ use2 𝓛 (raw ((PlaceIn 𝓛 at_mem run).pre (to α γ))) (goes are α γ) $ calls_at t fm (PlaceIn 𝓛 at_mem run) known (to α γ) (o α γ) (λ y.
-      use1 𝓛 (later (some (λ (a : PlaceAnswer). ((‵ (flft (α ∷ []) full_share) ⊛ ‵ ftrue) ⊛ ‵ ((E.the_row).own_val a (y ∷ []))) ⊛ raw (ensured 𝓛 IsPlace-in.ended (IsPlace-in.clauses 𝓛 at_mem run) (α ∷ [], tt) (ref γ, ns) tt a)))) (id⊢ 𝓤 _) $ await t tt $ pick t (λ a. split t $ move t (1 ∷ []) $
-      use1 𝓛 (some (λ (ws : Lasts IsPlace-in.ended (α ∷ [], tt) (ref γ, ns)). ‵ (lasts IsPlace-in.ended (α ∷ [], tt) (ref γ, ns) ws) ⊛ raw (fact 𝓤 (Says a ws.0 h ns)))) (id⊢ 𝓤 _) $ pick t (λ ws. split t $ move t (1 ∷ []) $ heard t (Says a ws.0 h ns) (λ e. fsplit t $
+      use1 𝓛 (later (some (λ (a : PlaceAnswer). ((‵ (flft (α ∷ []) full_share) ⊛ ‵ ftrue) ⊛ ‵ ((E.the_row).own_val a (y ∷ []))) ⊛ raw (ensured 𝓛 place_in_is.ended (place_in_is.clauses 𝓛 at_mem run) (α ∷ [], tt) (ref γ, ns) tt a)))) (id⊢ 𝓤 _) $ await t tt $ pick t (λ a. split t $ move t (1 ∷ []) $
+      use1 𝓛 (some (λ (ws : Lasts place_in_is.ended (α ∷ [], tt) (ref γ, ns)). ‵ (lasts place_in_is.ended (α ∷ [], tt) (ref γ, ns) ws) ⊛ raw (fact 𝓤 (Says a ws.0 h ns)))) (id⊢ 𝓤 _) $ pick t (λ ws. split t $ move t (1 ∷ []) $ heard t (Says a ws.0 h ns) (λ e. fsplit t $
       -- [what the reference leaves: its last page and its borrow; nothing; the token and the answer; the lender's part; …]
       fsplit t $ move t (1 ∷ []) $ drop t $
       -- [the last page; nothing; the token and the answer; the lender's part; …]

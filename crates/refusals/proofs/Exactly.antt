@@ -23,8 +23,8 @@ use Rattle.float.specs.Numbers.{farthest, plus_zero, in_reach, all_finite, all_a
 use Rattle.float.specs.Refuse.{number_of, side_of, clear_of, check_of}
 use Rattle.float.specs.Answers.{Value, Said, refused, values, said_place, said_done, said_content, said_bfc, said_started, said_yes_no, said_threshold, said_innermost}
 use Rattle.float.specs.Page.{Page, page_of}
-use Rattle.float.specs.Place.{Call, cleaned, Result, ask_of, spot_of, near, high, flat, put, admitted, checked as checkedOf, place, place_of, width_check, width_of}
-use Rattle.float.specs.Slot.{ContentCall, BfcCall, has_active_floats, cleared_threshold, innermost as innermost_of, content as contentOf, bfc as bfcOf}
+use Rattle.float.specs.Place.{Call, cleaned, Result, ask_of, spot_of, near, high, flat, put, admitted, checked as checked_of, place, place_of, width_check, width_of}
+use Rattle.float.specs.Slot.{ContentCall, BfcCall, has_active_floats, cleared_threshold, innermost as innermost_of, content as content_of, bfc as bfc_of}
 use Rattle.float.specs.Calculator.{calculator_of, zeroed, plus_on, added, added_sums, add_of}
 use Rattle.demands.specs.Runs.{Some}
 use Rattle.demands.proofs.Tested.{Fails, plus, and_also, and_last, not_passed, not_below, not_above}
@@ -107,11 +107,11 @@ module _ (p : FloatContext) (q : Calculator) where
   active_exactly y = ask said_yes_no (active y) (λ n. refl) (accepted (active y) (λ n. not_refused n))
 
   content_exactly : (c : ContentCall) → Outcome (Refuses p q (content c)) (Applies (page_of p) q (content c))
-  unfolding contentOf top
+  unfolding content_of top
   content_exactly c = ask said_content (content c) (λ n. refl) (accepted (content c) (λ n. not_refused n))
 
   bfc_exactly : (c : BfcCall) → Outcome (Refuses p q (bfc c)) (Applies (page_of p) q (bfc c))
-  unfolding bfcOf top
+  unfolding bfc_of top
   bfc_exactly c = ask said_bfc (bfc c) (λ n. refl) (accepted (bfc c) (λ n. not_refused n))
 
   threshold_exactly : (k : ℕ) → Outcome (Refuses p q (threshold k)) (Applies (page_of p) q (threshold k))
@@ -204,7 +204,7 @@ module _ (p : FloatContext) (q : Calculator) (c : Call) where
   put_exactly false e f = high_exactly (ap not e) f
 
   box_exactly : Outcome (Refuses p q (box c)) Boxes
-  unfolding place_of place checkedOf admitted put
+  unfolding place_of place checked_of admitted put
   box_exactly =
       ask (λ (r : Result). said_place r.answer) (box c) (λ n. refl)
       (λ f. tested Places 5 (not_below (length (page_of p).boxes) 64) boxes_full row_5 (gap 4 (λ h. elim h [ ]) f) (says 5)

@@ -19,7 +19,7 @@ use Rattle.float.specs.Refuse.{number_of}
 use Rattle.float.specs.Answers.{Value, Said, refused, values, said_place, said_done, said_content, said_bfc, said_started}
 use Rattle.float.specs.Page.{page_of, front}
 use Rattle.float.specs.Place.{place_of, width_of}
-use Rattle.float.specs.Slot.{content as contentOf, bfc as bfcOf}
+use Rattle.float.specs.Slot.{content as content_of, bfc as bfc_of}
 use Rattle.float.specs.Calculator.{add_of}
 use Rattle.demands.specs.Runs.{Some}
 use Rattle.tape.specs.declared.record.Record.{Record}
@@ -88,8 +88,8 @@ unfolding step_of
 line_exactly_when s Record.Fresh n = (λ e. let z : ◌≡◌ {A = ℕ} 78 82 = cc in omega arith, λ x. absurd x)
 line_exactly_when s (Record.Width w) n = by_call s (width w) n (done 87 (λ e. omega arith) (width_of s.page w).answer n)
 line_exactly_when s (Record.Place side clear w h y l r) n = by_call s (box _) n (placed (place_of s.page _).answer n)
-line_exactly_when s (Record.Content y l r clear after) n = by_call s (content _) n (contents (contentOf (page_of s.page) _) n)
-line_exactly_when s (Record.Bfc y l r ml mr d clear after) n = by_call s (bfc _) n (bfcs (bfcOf (page_of s.page) _) n)
+line_exactly_when s (Record.Content y l r clear after) n = by_call s (content _) n (contents (content_of (page_of s.page) _) n)
+line_exactly_when s (Record.Bfc y l r ml mr d clear after) n = by_call s (bfc _) n (bfcs (bfc_of (page_of s.page) _) n)
 line_exactly_when s (Record.Start mode) n = by_call s (start mode) n (starts s.calculator (start_of mode) n)
 line_exactly_when s (Record.Add w side clear) n = by_call s (add_box w side clear) n (adds s s.calculator w side clear n)
 line_exactly_when s Record.Result n = by_call s result n (λ e. e, λ e. e)

@@ -4,7 +4,7 @@ use Rattle.float.specs.declared.FloatContext.{FloatContext}
 use Rattle.float.specs.Answers.{Said, refused, values, count, said_place, said_done, said_content, said_bfc, said_started, said_yes_no, said_threshold, said_innermost}
 use Rattle.float.specs.Page.{page_of}
 use Rattle.float.specs.Place.{place_of, width_of}
-use Rattle.float.specs.Slot.{has_active_floats, cleared_threshold, innermost as innermost_of, content as contentOf, bfc as bfcOf}
+use Rattle.float.specs.Slot.{has_active_floats, cleared_threshold, innermost as innermost_of, content as content_of, bfc as bfc_of}
 use Rattle.float.specs.Calculator.{add_of}
 use Rattle.tape.specs.declared.record.Record.{Record}
 use Rattle.tape.specs.declared.step.Calculator.{Calculator}
@@ -26,8 +26,8 @@ abbrev pub Refuses : FloatContext → Calculator → Asked → ℕ → Type 0
 Refuses p q (width w) n = said_done (width_of p w).answer ≡ refused n
 Refuses p q (active y) n = said_yes_no (has_active_floats (page_of p) y) ≡ refused n
 Refuses p q (box c) n = said_place (place_of p c).answer ≡ refused n
-Refuses p q (content c) n = said_content (contentOf (page_of p) c) ≡ refused n
-Refuses p q (bfc c) n = said_bfc (bfcOf (page_of p) c) ≡ refused n
+Refuses p q (content c) n = said_content (content_of (page_of p) c) ≡ refused n
+Refuses p q (bfc c) n = said_bfc (bfc_of (page_of p) c) ≡ refused n
 Refuses p q (threshold k) n = said_threshold (cleared_threshold (page_of p) k) ≡ refused n
 Refuses p q (innermost i s) n = said_innermost (innermost_of (page_of p) i s) ≡ refused n
 Refuses p q (start m) n = said_started (start_of m) ≡ refused n

@@ -30,7 +30,7 @@ use Rattle.tape.specs.declared.step.State.{State}
 use Rattle.tape.specs.Bytes.{float, decimal, row}
 use Rattle.tape.specs.Record.{body_len, place_record, read_of}
 use Rattle.tape.specs.Lines.{done_line, place_line, refused_line}
-use Rattle.tape.specs.Tape.{fresh_state, started as startedBy, add_to, step_of, run as runTape, lines_of, broken, broken_line, runs, page_after, returned_box}
+use Rattle.tape.specs.Tape.{fresh_state, started as started_by, add_to, step_of, run as run_tape, lines_of, broken, broken_line, runs, page_after, returned_box}
 use Rattle.tied.specs.Acts.{calls_in, records, records_of, state_after, lines_from, RecordAt, line_at, PLine, RLine, state_at, run_at, calls_next, whole_run}
 
 -- ---- the page
@@ -86,8 +86,8 @@ unfolding page_after
 page_after_tape t h = rw (le-leb (length t) 65536 h, page_after) (ap (λ (s : State). s.page) (runs_state (length t) t fresh_state) ∙ page_after_lem (records_of t) ∙ ap (λ (qs : List Record). (after (flat_map calls_in qs)).struct) (sym (take_all (length (records_of t)) (records_of t) (omega arith))))
 
 -- ---- the lines
-run_lines : (f i : ℕ) (t : List ℕ) (s : State) → runTape f i t s ≡ flatten (lines_from s (records f t)) ++ broken f i t
-unfolding runTape flatten lines_from records broken
+run_lines : (f i : ℕ) (t : List ℕ) (s : State) → run_tape f i t s ≡ flatten (lines_from s (records f t)) ++ broken f i t
+unfolding run_tape flatten lines_from records broken
 run_lines zero i t s = refl
 run_lines (suc f) i [] s = refl
 run_lines (suc f) i (k ∷ b) s = go (read_of k b) (λ q. run_lines f j c (step_of s q).after)
@@ -98,8 +98,8 @@ run_lines (suc f) i (k ∷ b) s = go (read_of k b) (λ q. run_lines f j c (step_
     c : List ℕ
     c = drop (body_len k) b
 
-    go : (x : Read) → ((q : Record) → runTape f j c (step_of s q).after ≡ flatten (lines_from (step_of s q).after (records f c)) ++ broken f j c)
-        → elim x [ Read.Whole q ↦ (step_of s q).line ++ runTape f j c (step_of s q).after | Read.Broken ↦ row 84 (decimal i ∷ []) ]
+    go : (x : Read) → ((q : Record) → run_tape f j c (step_of s q).after ≡ flatten (lines_from (step_of s q).after (records f c)) ++ broken f j c)
+        → elim x [ Read.Whole q ↦ (step_of s q).line ++ run_tape f j c (step_of s q).after | Read.Broken ↦ row 84 (decimal i ∷ []) ]
         ≡ flatten (lines_from s (elim x [ Read.Whole q ↦ q ∷ records f c | Read.Broken ↦ [] ])) ++ elim x [ Read.Whole q ↦ broken f j c | Read.Broken ↦ row 84 (decimal i ∷ []) ]
     go (Read.Whole q) h = ap (λ (x : List ℕ). (step_of s q).line ++ x) (h q) ∙ sym (append_assoc (step_of s q).line _ _)
     go Read.Broken h = refl
@@ -194,8 +194,8 @@ unfolding place_line
 place_refused (PlaceAnswer.At x y k) e = absurd (omega arith)
 place_refused (PlaceAnswer.Refused n) e = (n, refl)
 
-start_left : (c : Calculator) (a : CalculatorAnswer) → RLine (startedBy c a).line → (startedBy c a).after ≡ c
-unfolding startedBy
+start_left : (c : Calculator) (a : CalculatorAnswer) → RLine (started_by c a).line → (started_by c a).after ≡ c
+unfolding started_by
 start_left c (CalculatorAnswer.Started new) e = absurd (omega arith)
 start_left c (CalculatorAnswer.Refused n) e = refl
 

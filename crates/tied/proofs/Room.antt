@@ -34,7 +34,7 @@ use Rattle.tape.specs.declared.step.State.{State}
 use Rattle.tape.specs.Bytes.{float, decimal, decimals, fields, row}
 use Rattle.tape.specs.Record.{body_lens, body_len, record_of, read_of}
 use Rattle.tape.specs.Lines.{place_line, band, content_line, bfc_line}
-use Rattle.tape.specs.Tape.{fresh_state, step_of, run as runTape, lines_of, returned, filled}
+use Rattle.tape.specs.Tape.{fresh_state, step_of, run as run_tape, lines_of, returned, filled}
 use Rattle.tape.proofs.Digits.{length_digits, at_most}
 use Rattle.tape.proofs.Lengths.{length_refused, by_kind, length_offset}
 use Rattle.tied.specs.Acts.{calls_in, state_after, room_for}
@@ -152,8 +152,8 @@ module _ (qs : List Record) (f : Each Hands qs) where
   line_short : (k : ℕ) (b : List ℕ) → length (step_of (state_after fresh_state qs) (record_of k b)).line ≤ 11 * suc (body_len k)
   line_short k b = ⊎_elim (λ h. let l = long_line k b h in omega arith) (λ l. omega arith) (by_kind (state_after fresh_state qs) k b)
 
-run_short : (f i : ℕ) (t : List ℕ) (qs : List Record) → Each Hands qs → i + length t ≤ 65536 → length (runTape f i t (state_after fresh_state qs)) ≤ room_for t
-unfolding runTape read_of
+run_short : (f i : ℕ) (t : List ℕ) (qs : List Record) → Each Hands qs → i + length t ≤ 65536 → length (run_tape f i t (state_after fresh_state qs)) ≤ room_for t
+unfolding run_tape read_of
 run_short zero i t qs h g = omega arith
 run_short (suc f) i [] qs h g = omega arith
 run_short (suc f) i (k ∷ b) qs h g = go (ltb k (length body_lens)) (leb (body_len k) (length b)) refl (run_short f j c (qs ++ record_of k b ∷ []) (each_append Hands qs (record_of k b ∷ []) h (record_f32 k b, tt)))
@@ -167,14 +167,14 @@ run_short (suc f) i (k ∷ b) qs h g = go (ltb k (length body_lens)) (leb (body_
     c : List ℕ
     c = drop (body_len k) b
 
-    go : (x y : Bool) → leb (body_len k) (length b) ≡ y → (j + length c ≤ 65536 → length (runTape f j c (state_after fresh_state (qs ++ record_of k b ∷ []))) ≤ room_for c)
-        → length {A = ℕ} (elim (cond (x && y) (Read.Whole (record_of k b)) Read.Broken) [ Read.Whole q ↦ (step_of s q).line ++ runTape f j c (step_of s q).after | Read.Broken ↦ row 84 (decimal i ∷ []) ]) ≤ room_for (k ∷ b)
+    go : (x y : Bool) → leb (body_len k) (length b) ≡ y → (j + length c ≤ 65536 → length (run_tape f j c (state_after fresh_state (qs ++ record_of k b ∷ []))) ≤ room_for c)
+        → length {A = ℕ} (elim (cond (x && y) (Read.Whole (record_of k b)) Read.Broken) [ Read.Whole q ↦ (step_of s q).line ++ run_tape f j c (step_of s q).after | Read.Broken ↦ row 84 (decimal i ∷ []) ]) ≤ room_for (k ∷ b)
     go true true e r =
         let n = leb-true (body_len k) (length b) e in
         let d = length-drop (body_len k) b in
         let l = line_short qs h k b in
-        let m = length-append (step_of s (record_of k b)).line (runTape f j c (step_of s (record_of k b)).after) in
-        let o = ap (λ (x : State). length (runTape f j c x)) (foldl-append (λ (x : State) (q : Record). (step_of x q).after) fresh_state qs (record_of k b ∷ [])) in
+        let m = length-append (step_of s (record_of k b)).line (run_tape f j c (step_of s (record_of k b)).after) in
+        let o = ap (λ (x : State). length (run_tape f j c x)) (foldl-append (λ (x : State) (q : Record). (step_of x q).after) fresh_state qs (record_of k b ∷ [])) in
         let p = r (omega arith) in
         omega arith
     go true false e r = let l = length_offset i (omega arith) in omega arith
@@ -185,7 +185,7 @@ pub lines_at_most : (t : List ℕ) → length (lines_of t) ≤ room_for t
 unfolding lines_of fields
 lines_at_most t = go (leb (length t) 65536) refl
   where
-    go : (x : Bool) → leb (length t) 65536 ≡ x → length {A = ℕ} (elim x [ true ↦ runTape (length t) 0 t fresh_state | false ↦ row 76 [] ]) ≤ room_for t
+    go : (x : Bool) → leb (length t) 65536 ≡ x → length {A = ℕ} (elim x [ true ↦ run_tape (length t) 0 t fresh_state | false ↦ row 76 [] ]) ≤ room_for t
     go true e = let l = leb-true (length t) 65536 e in run_short (length t) 0 t [] tt (omega arith)
     go false e = let l = leb-false (length t) 65536 e in omega arith
 

@@ -4,7 +4,7 @@ use Rattle.std.specs.Float.{binary32}
 use Rattle.std.specs.Float.Ieee.{add, sub, lt, le}
 use Rattle.f32_laws.specs.Numbers.{larger, zero+}
 use Rattle.float.specs.declared.Segment.{Segment}
-use Rattle.float.specs.Answers.{Value, float, count, Said, refused as refusedBy, values}
+use Rattle.float.specs.Answers.{Value, float, count, Said, refused as refused_by, values}
 use Rattle.float.specs.Bands.{last_end}
 use Rattle.float.specs.Numbers.{in_reach}
 use Rattle.float.specs.Page.{Page, front}
@@ -129,7 +129,7 @@ line_values (x ∷ xs) = float x.x ∷ float x.y ∷ count x.first ∷ count x.c
 
 abbrev pub said_by : SetAnswer → List Line → Said
 said_by SetAnswer.Set xs = values (line_values xs)
-said_by (SetAnswer.Refused n) xs = refusedBy (number_of n)
+said_by (SetAnswer.Refused n) xs = refused_by (number_of n)
 
 abbrev pub said_lines : Lines → Said
 said_lines r = said_by r.answer (take r.count r.lines)

@@ -13,7 +13,7 @@ use Rattle.float.specs.Quest.{Found}
 use Rattle.float.proofs.Holding.{looked_order, walking_first, walking_next, walking_end, walking_stop, writing_first, writing_next, writing_end}
 use Rattle.float.proofs.Scan.{scan_goes, scan_finds, scan_ends}
 use Rattle.tape.proofs.Going.{going_fresh, going_more, going_done}
-use Rattle.tape.proofs.Held.{asked, of_parts, place_left}
+use Rattle.tape.proofs.Held.{Asked, asked, of_parts, place_left}
 use Rattle.tape.proofs.Laying.{laying_none, laying_more}
 use Rattle.tape.proofs.Running.{turned_whole}
 use Rattle.tape.proofs.run.records.Goals as goal
@@ -37,7 +37,7 @@ pub loop-at-preserved-then-asks : goal.loop-at-preserved-then-asks
 loop-at-preserved-then-asks c =
     let few : c.asking-asks.result.quest.n ≤ length c.loop-at.bands = omega (arith, c.loop-at.invariant.1, c.asking-asks.ensures.2) in
     let l = c.loop-at in
-    let w = asked _ (sym c.asking-asks.ensures.0 ∙ c.if-asks.true) in
+    let w : Asked c.read_record-read.result = asked _ (sym c.asking-asks.ensures.0 ∙ c.if-asks.true) in
     let found : Found l.bands c.asking-asks.result.quest c.loop-i.i c.loop-k.k = record {
       at =
           elim c.loop-i-test.branch [
