@@ -6,8 +6,9 @@ sequence of calls, by the theorem that each call is refused exactly when the pap
 
 The form is that of the edits (tools/edits.py); a line `by: JUDGE` names the judge that must refuse
 it. Each judge but the last is asked in a copy of its own, in which the crates below it are types,
-definitions and the laws that it stands on, so that nothing else can speak there. The table refuses
-a definition when the examples are proved to come out false with it. What all of these let pass is
+definitions and the laws that it stands on, so that nothing else can speak there; below the table they
+stand in its own crate. The table refuses a definition when the examples are proved to come out false
+with it. What all of these let pass is
 held against the proofs of NAME, in a copy of all; with --all every judge is asked about every one.
 A definition that is none (a slip of the pen) counts as a failure. The copies stand outside the
 repository, and each is checked by `rt check` over what is proved already.
@@ -23,11 +24,12 @@ import sys
 import tempfile
 from pathlib import Path
 
-from edits import JOBS, ROOT, check, copy_crates, double, facts, first_words, is_proved, is_refused, spread, with_edit
+from edits import JOBS, ROOT, applied, check, copy_crates, double, facts, first_words, is_proved, is_refused, read_edit, spread, with_edit
 
 TABLE, PROMISES, REFUSALS, PROOF = "the table", "the promises", "the refusals", "a proof"
-# where the table is said to come out true
+# where the table is said to come out true, and the crates whose definitions it stands on
 EXAMPLES = "proofs/Examples.antt"
+MERGED = ("float", "words", "tape")
 
 
 def uses_of(text):
@@ -77,12 +79,48 @@ def cites(name, text):
     return re.findall(rf"^use Rattle\.{name}\.proofs\.(\w+)", text, re.M)
 
 
+def in_one(text):
+    """A text of specs/ or proofs/ where the types and definitions of MERGED stand in `marked`."""
+    for name in MERGED:
+        text = text.replace(f"Rattle.{name}.specs.declared.", f"Rattle.marked.specs.declared.{name}.")
+        text = text.replace(f"Rattle.{name}.specs.", f"Rattle.marked.specs.{name.title()}")
+    return text
+
+
+def one_module(name):
+    """The types of a crate as one module: its files as modules within."""
+    folder = ROOT / "crates" / name / "src"
+
+    def within(file):
+        text = types_of((folder / file).read_text())
+        text = re.sub(r"^((?:pub )?use )crate::", rf"\1crate::{name}::", text, flags=re.M)
+        text = re.sub(rf"^((?:pub )?use )({'|'.join(MERGED)})::", r"\1crate::\2::", text, flags=re.M)
+        return re.sub(r"^((?:pub )?mod (\w+));\n", lambda found: f"{found[1]} {{\n{within(found[2] + '.rt')}}}\n", text, flags=re.M)
+
+    return f"pub mod {name} {{\n{within('lib.rt')}}}\n"
+
+
+def merged(name):
+    """The files of a crate's definitions that stand in `marked`: none that speaks of demands, which is not there."""
+    return [file for file in sorted((ROOT / "crates" / name / "specs").glob("*.antt")) if file.stem != "Lib" and "Rattle.demands." not in file.read_text()]
+
+
 def copy_table(where):
-    """The table, said to come out false, over definitions."""
-    copy_crates(where)
-    for name in ("float", "tape", "demands", "words"):
-        without_functions(where / "crates" / name)
-    table = where / "crates" / "marked" / EXAMPLES
+    """The table, said to come out false, over definitions: types and definitions stand in one crate, so that one check is enough."""
+    marked = where / "crates" / "marked"
+    for name in ("f32_laws", "marked"):
+        shutil.copytree(ROOT / "crates" / name, where / "crates" / name, ignore=shutil.ignore_patterns("must-fail", "out"))
+    (where / "crates.txt").write_text("f32_laws:\nmarked: f32_laws\n")
+    for file in [*marked.glob("specs/*.antt"), *marked.glob("proofs/*.antt")]:
+        file.write_text(in_one(file.read_text()))
+    lib = marked / "specs" / "Lib.antt"
+    for name in MERGED:
+        for file in merged(name):
+            (marked / "specs" / f"{name.title()}{file.name}").write_text(in_one(file.read_text()))
+            lib.write_text(lib.read_text() + f"pub mod {name.title()}{file.stem}\n")
+    root = marked / "src" / "lib.rt"
+    root.write_text(root.read_text() + "".join(one_module(name) for name in MERGED))
+    table = marked / EXAMPLES
     text, count = re.subn(r"^(pub marked_examples : .*) true$", r"\1 false", table.read_text(), flags=re.M)
     text, imports = re.subn(r"\btrue}", "true, false}", text)
     if (count, imports) != (1, 1):
@@ -134,7 +172,18 @@ def is_below(result):
 
 def refused_by_table(where, name, path):
     """The examples come out false; an error elsewhere tells nothing of them."""
-    result = tried(where, name, path, "marked")
+    _, now = applied(ROOT / "crates" / name, read_edit(path))
+    if not set(now) <= set(merged(name)):
+        return ""
+    places = {where / "crates" / "marked" / "specs" / f"{name.title()}{file.name}": in_one(text) for file, text in now.items()}
+    was = {place: place.read_text() for place in places}
+    try:
+        for place, text in places.items():
+            place.write_text(text)
+        result = check(where, "marked")
+    finally:
+        for place, text in was.items():
+            place.write_text(text)
     if is_proved(result):
         return "the examples come out false"
     if is_below(result) or not is_refused(result) or EXAMPLES not in result[1]:
