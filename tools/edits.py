@@ -80,8 +80,8 @@ def with_edit(crate, path, call):
 
 
 def link_or_copy(one, other):
-    """What was proved gets a second name: a check replaces such a file, and never writes into it."""
-    if one.endswith(".oantt"):
+    """What was proved or built gets a second name: rt replaces such a file, and never writes into it."""
+    if str(one).endswith(".oantt") or "/out/rlib/" in str(one):
         try:
             return os.link(one, other)
         except OSError:
@@ -89,9 +89,9 @@ def link_or_copy(one, other):
     return shutil.copy2(one, other)
 
 
-def copy_crates(where, kept=True):
-    """The repository's crates in a folder of their own, with what was proved of them here if `kept`."""
-    left_out = shutil.ignore_patterns("edits", "definitions", "must-fail", "rt-work-*", *([] if kept else ["out"]))
+def copy_crates(where):
+    """The repository's crates in a folder of their own, with what was proved of them here."""
+    left_out = shutil.ignore_patterns("edits", "definitions", "must-fail", "rt-work-*")
     shutil.copytree(ROOT / "crates", where / "crates", ignore=left_out, copy_function=link_or_copy)
     shutil.copy(ROOT / "crates.txt", where / "crates.txt")
 

@@ -18,7 +18,7 @@ import sys
 from pathlib import Path
 
 ROOT = Path(__file__).resolve().parent.parent
-LANDED = "40405c0"
+LANDED = "40405c0e8ec5383e5221a20dace6de5f5c94fad2"
 KINDS = ("must-fail", "edits", "definitions")
 
 TOKEN = re.compile(r"""\s+|--[^\n]*|"[^"\n]*"|[(){}\[\],;|]|\.(?=[«\w])|«[^»\n]*»|[^\s(){}\[\],;|"«».]+|\.""")
