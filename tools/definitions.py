@@ -196,7 +196,7 @@ def refused_by_theorems(asked, where, name, path):
     result = tried(where, name, path, asked)
     if not is_refused(result) or is_below(result) and asked != name:
         return ""
-    return next((f"{place}: {what}" for place, what in facts(result[1]) if place.startswith("proofs/")), "")
+    return next((f"{place}: {what}" for place, _, what in facts(result[1]) if place.startswith("proofs/")), "")
 
 
 @functools.cache

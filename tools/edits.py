@@ -4,9 +4,10 @@
 The form is that of rt's must-fail edits: an explaining line, `file: src/x.rt`, `old: text` (which
 stands there exactly once) and `new: text`; several pairs may follow. `rt ci` tries must-fail edits
 itself, at the gate and at each merge; these are many, and are tried here, each by `rt check` in a
-copy of the repository over what is proved already, in seconds: first of the functions that it
-changes alone, and of the whole crate where nothing is refused there. The crate without the edit must
-be proved first. An edit that only makes a proof file unfit for the code ("has no field", "is not in
+copy of the repository over what is proved already, in seconds. A function is proved from its own code
+and the contracts of those that it calls, so edits of several functions of a crate are tried together,
+each by what is said against its own function; one against which nothing is said there is tried alone,
+over the whole crate. The crate without the edit must be proved first. An edit that only makes a proof file unfit for the code ("has no field", "is not in
 scope"), that cannot be read, or that only meets a limit of the prover shows nothing and counts as a
 failure.
 
@@ -26,8 +27,10 @@ from pathlib import Path
 
 ROOT = Path(__file__).resolve().parent.parent
 JOBS = int(os.environ.get("RT_JOBS") or min(4, len(os.sched_getaffinity(0))))
+# how many edits are tried together, at most
+TOGETHER = 8
 # a line that says what is refused, and where
-TOLD = re.compile(r"(?P<note>note: )?(?:\S*?/crates/\w+/|\./)?(?P<where>(?:src|specs|proofs)/\S+?)(?::\d+:\d+)?: (?P<error>error: )?(?P<what>.*)")
+TOLD = re.compile(r"(?P<note>note: )?(?:\./)?(?P<where>(?:src|specs|proofs)/\S+?)(?::(?P<line>\d+):\d+)?: (?P<error>error: )?(?P<what>.*)")
 # what only follows from another refusal
 FOLLOWS = re.compile(r"declarations? that depends? on .* not checked|was not admitted")
 # what only says that a name is gone
@@ -67,9 +70,9 @@ def applied(crate, pairs):
     return was, now
 
 
-def with_edit(crate, path, call):
-    """What a call gives with an edit applied to a crate's folder, which is put back."""
-    was, now = applied(crate, read_edit(path))
+def with_pairs(crate, pairs, call):
+    """What a call gives with replacements made in a crate's folder, which is put back."""
+    was, now = applied(crate, pairs)
     try:
         for target, text in now.items():
             target.write_text(text)
@@ -77,6 +80,11 @@ def with_edit(crate, path, call):
     finally:
         for target, text in was.items():
             target.write_text(text)
+
+
+def with_edit(crate, path, call):
+    """What a call gives with an edit applied to a crate's folder, which is put back."""
+    return with_pairs(crate, read_edit(path), call)
 
 
 def link_or_copy(one, other):
@@ -120,24 +128,24 @@ def is_refused(result):
 
 
 def told(said, notes=True):
-    """What is refused and does not follow from another, each with where: errors, and with `notes` what is not proved."""
+    """What is refused and does not follow from another, each with its file and line: errors, and with `notes` what is not proved."""
     found, lines = [], said.splitlines()
     for at, line in enumerate(lines):
         one = TOLD.match(line)
         if one and (one["error"] or notes and one["note"]) and not FOLLOWS.search(one["what"]):
             rest = [more.strip() for more in itertools.takewhile(lambda more: more.startswith("  "), lines[at + 1:])]
-            found.append((one["where"], " ".join([one["what"]] + rest[:4])))
+            found.append((one["where"], int(one["line"] or 0), " ".join([one["what"]] + rest[:4])))
     return found
 
 
 def facts(said):
     """What says more than that a name is gone."""
-    return [(where, what) for where, what in told(said) if not GONE.search(what)]
+    return [one for one in told(said) if not GONE.search(one[2])]
 
 
 def unread(said, files):
     """An error that shows that one of these files, or the code, or a definition, could not be read."""
-    for where, what in told(said, notes=False):
+    for where, _, what in told(said, notes=False):
         named = re.match(r"`[^`]*`: (.*)", what)
         if (where in files or where.startswith(("src/", "specs/"))) and (not named or UNREAD.search(re.sub(r"`[^`]*`", "", named[1]))):
             return f"{where}: {what}"
@@ -148,29 +156,56 @@ def first_words(said):
     """The first thing that was said against the crate."""
     found = facts(said) or told(said)
     if found:
-        return ": ".join(found[0])
+        return f"{found[0][0]}: {found[0][2]}"
     lines = [line for line in said.splitlines() if re.search(r"error|: not proved|rt: ", line)]
     return (lines or said.splitlines()[-1:] or ["nothing was said"])[0]
 
 
+def function_at(file, text, at):
+    """The function of a source file in which a place is, by the end of its path, if it is in one."""
+    heads = [*re.finditer(r"^( *)(?:pub(?:\(\w+\))? )?(?:extern \"C\" )?fn (\w+)", text[:at], re.M)]
+    if not heads:
+        return None
+    indent, name = heads[-1].groups()
+    if re.search(rf"^{indent}}}\n", text[heads[-1].start():at], re.M):
+        return None
+    owner = re.findall(r"^impl\b[^{]*?(\w+)(?:<[^{]*>)? *{", text[:at], re.M)[-1] if indent else Path(file).stem
+    return name if owner == "lib" else f"{owner}::{name}"
+
+
 def functions(crate, pairs):
-    """The functions that an edit of code changes, by the ends of their paths; none where it changes something else."""
+    """The functions that an edit of code changes; none where it changes something else."""
     now, found = {}, []
     for file, old, new in pairs:
         if re.match("proofs/.*/", file):
             continue  # what a function's proof says of it goes along
         text = now.setdefault(file, (crate / file).read_text())
         at = text.find(old)
-        heads = [] if not file.endswith(".rt") else [*re.finditer(r"^( *)(?:pub(?:\(\w+\))? )?(?:extern \"C\" )?fn (\w+)", text[:at + len(old)], re.M)]
-        if not heads or at < 0:
+        name = function_at(file, text, at + len(old)) if file.endswith(".rt") and at >= 0 else None
+        if name is None:
             return []
-        indent, name = heads[-1].groups()
-        if re.search(rf"^{indent}}}", text[heads[-1].start():at], re.M):
-            return []
-        owner = re.findall(r"^impl\b[^{]*?(\w+)(?:<[^{]*>)? *{", text[:at], re.M)[-1] if indent else Path(file).stem
-        found.append(name if owner == "lib" else f"{owner}::{name}")
+        found.append(name)
         now[file] = text.replace(old, new)
     return list(dict.fromkeys(found))
+
+
+def grouped(crate, paths):
+    """The edits of a crate in groups that are tried together, each edit with the one function that it changes, if it is one."""
+    groups = []
+    for path in paths:
+        only = functions(crate, read_edit(path))
+        one = only[0] if len(only) == 1 else None
+        for group in groups:
+            if one and None not in group.values() and one not in group.values() and len(group) < TOGETHER:
+                try:
+                    applied(crate, [pair for other in [*group, path] for pair in read_edit(other)])
+                except ValueError:
+                    continue
+                group[path] = one
+                break
+        else:
+            groups.append({path: one})
+    return groups
 
 
 def judged(result, files):
@@ -183,29 +218,43 @@ def judged(result, files):
         return False, f"BAD EDIT: it cannot be read: {bad}"
     if not is_refused(result):
         return False, f"BAD EDIT: it did not reach the prover (status {status}): {first_words(said)}"
-    found = facts(said)
-    if not found:
+    if not facts(said):
         return False, f"SHOWS NOTHING: {first_words(said)}"
-    return True, f"refused: {': '.join(found[0])}"
+    return True, f"refused: {first_words(said)}"
 
 
 def try_edit(where, name, path):
     """Whether the edit is refused because a fact fails, and what to say of it."""
-    crate = where / "crates" / name
-
-    def ask(files, only):
-        if only:
-            good, words = judged(check(where, name, only=only), files)
-            if good:
-                return good, words
-        return judged(check(where, name), files)
-
     try:
-        pairs = read_edit(path)
-        only = functions(crate, pairs)
-        return with_edit(crate, path, lambda: ask({file for file, _, _ in pairs}, only))
+        files = {file for file, _, _ in read_edit(path)}
+        return judged(with_edit(where / "crates" / name, path, lambda: check(where, name)), files)
     except (ValueError, OSError) as why:
         return False, f"BAD EDIT: {why}"
+
+
+def try_together(where, name, group):
+    """What is said against the functions of edits that are tried together, by their edits."""
+    crate = where / "crates" / name
+    pairs = [pair for path in group for pair in read_edit(path)]
+
+    def ask():
+        status, said = check(where, name, only=group.values())
+        if not is_refused((status, said)) or unread(said, {file for file, _, _ in pairs}):
+            return []
+        return [(is_of(crate, one), one) for one in facts(said)]
+
+    found = {function: f"{place}: {what}" for function, (place, _, what) in reversed(with_pairs(crate, pairs, ask))}
+    return {path: f"refused: {found[function]}" for path, function in group.items() if function in found}
+
+
+def is_of(crate, one):
+    """The function that something was said against: by the folder of its proof, or by its line."""
+    place, line, _ = one
+    if place.startswith("proofs/"):
+        return "::".join(place.split("/")[1:-1])
+    text = (crate / place).read_text()
+    lines = text.splitlines(keepends=True)
+    return function_at(place, text, sum(map(len, lines[:line])) - 1)
 
 
 def spread(items, jobs, one):
@@ -233,31 +282,34 @@ def double(first, others):
 
 def main():
     wanted = sys.argv[1:]
-    edits = []
-    for path in sorted(ROOT.glob("crates/*/edits/*.edit")):
-        name, label = path.parts[-3], path.stem
-        if not wanted or name in wanted or f"{name}/{label}" in wanted:
-            edits.append((name, label, path))
-    jobs = min(JOBS, len(edits))
+    edits = [path for path in sorted(ROOT.glob("crates/*/edits/*.edit"))
+             if not wanted or {path.parts[-3], f"{path.parts[-3]}/{path.stem}"} & set(wanted)]
+    names = sorted({path.parts[-3] for path in edits})
+    groups = [(name, group) for name in names for group in grouped(ROOT / "crates" / name, [path for path in edits if path.parts[-3] == name])]
+    jobs = min(JOBS, len(groups))
+    failed = []
+
+    def tried(job, item):
+        name, group = item
+        room = rooms[job - 1]
+        found = try_together(room, name, group) if None not in group.values() else {}
+        for path in group:
+            good, words = (True, found[path]) if path in found else try_edit(room, name, path)
+            print(f"edit {name}/{path.stem}: {words[:240]}", flush=True)
+            if not good:
+                failed.append(f"{name}/{path.stem}")
+
     with tempfile.TemporaryDirectory(prefix="bulameki-edits-") as folder:
         rooms = [Path(folder) / str(job) for job in range(1, jobs + 1)]
         if edits:
             copy_crates(rooms[0])
-            for name in sorted({name for name, _, _ in edits}):
+            for name in names:
                 result = check(rooms[0], name, JOBS)
                 if not is_proved(result):
                     raise SystemExit(f"edits: {name} is not proved without an edit: {first_words(result[1])}")
             double(rooms[0], rooms[1:])
-
-        def tried(job, edit):
-            name, label, path = edit
-            good, words = try_edit(rooms[job - 1], name, path)
-            print(f"edit {name}/{label}: {words[:240]}", flush=True)
-            return good
-
-        good = spread(edits, jobs, tried)
-    failed = [f"{name}/{label}" for (name, label, _), passed in zip(edits, good) if not passed]
-    print(f"edits: {len(edits) - len(failed)} refused, {len(failed)} not{': ' + ' '.join(failed) if failed else ''}")
+        spread(groups, jobs, tried)
+    print(f"edits: {len(edits) - len(failed)} refused, {len(failed)} not{': ' + ' '.join(sorted(failed)) if failed else ''}")
     return 1 if failed or not edits else 0
 
 
