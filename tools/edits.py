@@ -20,12 +20,15 @@ import os
 import queue
 import re
 import shutil
+import signal
 import subprocess
 import sys
 import tempfile
 from pathlib import Path
 
 ROOT = Path(__file__).resolve().parent.parent
+# the seconds that a check may take: one that takes longer says nothing
+LIMIT = 600
 JOBS = int(os.environ.get("RT_JOBS") or min(4, len(os.sched_getaffinity(0))))
 # how many edits are tried together, at most
 TOGETHER = 8
@@ -107,8 +110,14 @@ def copy_crates(where):
 def check(where, name, jobs=1, only=()):
     """The status and the words of `rt check` of a crate there, or of some functions of it."""
     words = ["rt", "check", "--jobs", str(jobs), *[word for path in only for word in ("--only", path)]]
-    run = subprocess.run(words, cwd=where / "crates" / name, stdin=subprocess.DEVNULL, stdout=subprocess.PIPE, stderr=subprocess.STDOUT)
-    return run.returncode, run.stdout.decode("utf-8", "replace")
+    with subprocess.Popen(words, cwd=where / "crates" / name, stdin=subprocess.DEVNULL, stdout=subprocess.PIPE, stderr=subprocess.STDOUT,
+                          start_new_session=True) as run:
+        try:
+            said = run.communicate(timeout=LIMIT)[0]
+        except subprocess.TimeoutExpired:
+            os.killpg(run.pid, signal.SIGKILL)
+            return 124, f"rt: the check of {name} took longer than {LIMIT} s, and shows nothing"
+    return run.returncode, said.decode("utf-8", "replace")
 
 
 def verdict(said):
