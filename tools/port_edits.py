@@ -498,6 +498,9 @@ def check():
 def main():
     if sys.argv[1:] == ["--check"]:
         return check()
+    if sys.argv[1:]:
+        print(__doc__)
+        return 2
     done = left = 0
     for path in edits():
         try:
