@@ -1,5 +1,5 @@
 #!/usr/bin/env python3
-"""Tries the edits of crates/NAME/edits/*.edit: the prover must refuse each, because a fact fails.
+"""Tries the edits of crates/NAME/edits/*.edit: the prover must refuse each, for what it says of a fact.
 
 The form is that of rt's must-fail edits: an explaining line, `file: src/x.rt`, `old: text` (which
 stands there exactly once) and `new: text`; several pairs may follow. `rt ci` tries must-fail edits
@@ -7,9 +7,13 @@ itself, at the gate and at each merge; these are many, and are tried here, each 
 copy of the repository over what is proved already, in seconds. A function is proved from its own code
 and the contracts of those that it calls, so edits of several functions of a crate are tried together,
 each by what is said against its own function; one against which nothing is said there is tried alone,
-over the whole crate. The crate without the edit must be proved first. An edit that only makes a proof file unfit for the code ("has no field", "is not in
-scope"), that cannot be read, or that only meets a limit of the prover shows nothing and counts as a
-failure.
+over the whole crate. The crate without the edit must be proved first.
+
+Refused is an edit with which a law or an answer no longer fits, or a goal is not proved that is proved
+without it. Of such a goal the check may show that it is false, or say only that `search` gave up at one
+of its limits, as `rt must-fail` takes it too: that is printed, and shows no more than it says. An edit
+that only makes a proof file unfit for the code ("has no field", "is not in scope"), that cannot be read,
+or with which the check comes to no verdict shows nothing and counts as a failure.
 
 usage: edits.py [NAME[/LABEL] ..]   (from the repository's root; no name: every crate that has edits)
 RT_JOBS says how many are tried at once: as many as there are processors, at most 4, if left out.
@@ -233,7 +237,7 @@ def judged(result, files):
 
 
 def try_edit(where, name, path):
-    """Whether the edit is refused because a fact fails, and what to say of it."""
+    """Whether the edit is refused for what is said of a fact, and what to say of it."""
     try:
         files = {file for file, _, _ in read_edit(path)}
         return judged(with_edit(where / "crates" / name, path, lambda: check(where, name)), files)
