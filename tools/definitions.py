@@ -45,12 +45,12 @@ def uses_of(text):
 
 
 def types_of(text):
-    """What a source file declares, without its functions."""
+    """What a source file declares, without its functions and what a type promises of its values."""
     items = re.findall(r"^(?:#\[derive\([^)]*\)\]\n)?(?:pub )?(?:struct|enum) .*?^}\n", text, re.M | re.S)
-    said = "".join(items)
+    said = re.sub(r"^ *ghost \w+:.*\n", "", "".join(items), flags=re.M)
     uses = [f"{head}{path};\n" for head, path in uses_of(text)
             if re.fullmatch(r"[A-Z]\w*", path.split("::")[-1]) and re.search(rf"\b{path.split('::')[-1]}\b", said)]
-    return "// Types alone.\n" + "".join(re.findall(r"^(?:pub )?mod \w+;\n", text, re.M) + uses + items)
+    return "// Types alone.\n" + "".join(re.findall(r"^(?:pub )?mod \w+;\n", text, re.M) + uses) + said
 
 
 def without_functions(crate, kept=()):

@@ -40,6 +40,8 @@ TOGETHER = 8
 TOLD = re.compile(r"(?P<note>note: )?(?:\./)?(?P<where>(?:src|specs|proofs)/\S+?)(?::(?P<line>\d+):\d+)?: (?P<error>error: )?(?P<what>.*)")
 # what only follows from another refusal
 FOLLOWS = re.compile(r"declarations? that depends? on .* not checked|was not admitted")
+# what is no more than a remark on how an answer is written: it is made without an edit too
+REMARK = re.compile(r"is rattle's own name, not the source's|^note: ")
 # what only says that a name is gone
 GONE = re.compile(r"has no field|has no `|is not in scope|is no name|exports no `")
 # what antt says of a text that it cannot read
@@ -141,11 +143,11 @@ def is_refused(result):
 
 
 def told(said, notes=True):
-    """What is refused and does not follow from another, each with its file and line: errors, and with `notes` what is not proved."""
+    """What is refused and does not follow from another, without remarks, each with its file and line: errors, and with `notes` what is not proved."""
     found, lines = [], said.splitlines()
     for at, line in enumerate(lines):
         one = TOLD.match(line)
-        if one and (one["error"] or notes and one["note"]) and not FOLLOWS.search(one["what"]):
+        if one and (one["error"] or notes and one["note"]) and not FOLLOWS.search(one["what"]) and not REMARK.search(one["what"]):
             rest = [more.strip() for more in itertools.takewhile(lambda more: more.startswith("  "), lines[at + 1:])]
             found.append((one["where"], int(one["line"] or 0), " ".join([one["what"]] + rest[:4])))
     return found
@@ -264,7 +266,7 @@ def is_of(crate, one):
     """The function that something was said against: by the folder of its proof, or by its line."""
     place, line, _ = one
     if place.startswith("proofs/"):
-        return "::".join(place.split("/")[1:-1])
+        return "::".join(place.split("/")[1:-1][-2:])
     text = (crate / place).read_text()
     lines = text.splitlines(keepends=True)
     return function_at(place, text, sum(map(len, lines[:line])) - 1)

@@ -151,6 +151,7 @@ fn print_words(rt: &HostRuntime, tape: &[u8], room: &mut [u8]) {
 }
 
 // A parameter's length stands in its type. Lent where they are made, arrays so long would be computed as lists.
+// Kept: two rooms of two lengths, each with what is done with it.
 fn lend_lines(rt: &HostRuntime, tape: &[u8], lines: &mut [u8; LINES_ROOM]) {
     print_lines(rt, tape, lines);
 }

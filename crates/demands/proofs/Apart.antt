@@ -1,3 +1,4 @@
+use Rattle.std.specs.Prelude.{Some, Ok}
 -- Pages in whole 64ths: an accepted box stands in the bands at each of its heights for good, so a later one is clear of it.
 use mathlib.Core.Path.{◌≡◌, refl, sym, ap, ◌∙◌, subst}
 use mathlib.Core.Logic.{inl, inr}
@@ -15,9 +16,7 @@ use Rattle.f32_laws.specs.Key.{Num}
 use Rattle.f32_laws.proofs.Tests.{both}
 use Rattle.f32_laws.proofs.Keys.{le→key, eq→key}
 use Rattle.f32_laws.proofs.Larger.{larger_key}
-use Rattle.float.specs.declared.Bottom.{Bottom}
 use Rattle.float.specs.declared.FloatDirection.{FloatDirection}
-use Rattle.float.specs.declared.PlaceAnswer.{PlaceAnswer}
 use Rattle.float.specs.declared.Segment.{Segment}
 use Rattle.float.specs.declared.fit.Ask.{Ask}
 use Rattle.float.specs.declared.search.Spot.{Spot}
@@ -25,7 +24,7 @@ use Rattle.float.specs.Numbers.{in_reach}
 use Rattle.float.specs.Bands.{same_side, other, lead, has_float, none, mark_all}
 use Rattle.float.specs.Page.{Page, max_bands}
 use Rattle.float.specs.Fit.{placed_at}
-use Rattle.float.specs.Place.{Call, Result, Made, make, recorded, counted, ask_of, first_allowed, x_of, near, high, flat, put}
+use Rattle.float.specs.Place.{Call, PlaceResult, Made, make, recorded, counted, ask_of, first_allowed, x_of, near, high, flat, put}
 use Rattle.demands.specs.Runs.{Each, Pairs, Accepted, noted, side_in, containing_trail, bottom}
 use Rattle.demands.proofs.Laws.{k, B, Val, Ins, zero_k, ins_zero, ins_val, sum_ins}
 use Rattle.demands.proofs.Chain.{chain_mark, length_mark, mark_in, mark_float, mark_start, mark_end}
@@ -93,7 +92,7 @@ counted64 n g a i y e iv w d bt cl qy qb bs b ss s os o = record {
   width = w;
   bands = d;
   bottom = counted_is Q larger64 n a i y bt qb;
-  ceiling = lower_is Q larger64 n.ceiling (Bottom.At y) cl qy;
+  ceiling = lower_is Q larger64 n.ceiling (Some y) cl qy;
   boxes = each_append Box64 g e bs b;
   stands = each_append (Stands n.bands) g e ss s;
   beside = pairs_append (Beside n.width) g e os o;
@@ -192,11 +191,11 @@ module _ (p : Page) (g : List Accepted) (c : Call) (v : Inv64 p g) (q : Ask64 (a
         subst T (sym (ap (has_float r) w.3 ∙ mark_float r e num M.bands M.start M.end w.0 w.1 w.2 j)) tt,
       )
 
-  abbrev After : Result → Type 0
+  abbrev After : PlaceResult → Type 0
   After r = Step p g c r → Inv64 r.page (noted r.answer c r.page g)
 
   -- the log's entry, by the placed inset
-  entered : (n : Page) (y : Float) → (Inv (counted n ask s.inset y) (g ++ entry y ∷ []) → Inv64 (counted n ask s.inset y) (g ++ entry y ∷ [])) → After (record { answer = PlaceAnswer.At (x_of ask s.inset) y s.steps; page = counted n ask s.inset y })
+  entered : (n : Page) (y : Float) → (Inv (counted n ask s.inset y) (g ++ entry y ∷ []) → Inv64 (counted n ask s.inset y) (g ++ entry y ∷ [])) → After (record { answer = Ok (record { x = x_of ask s.inset; y = y; steps = s.steps }); page = counted n ask s.inset y })
   entered n y h st =
       subst (λ (i : Float). Inv (counted n ask s.inset y) (g ++ record { call = c; x = x_of ask s.inset; y = y; inset = i } ∷ []) → Inv64 (counted n ask s.inset y) (g ++ record { call = c; x = x_of ask s.inset; y = y; inset = i } ∷ []))
       (sym (last_inset_lem n ask s.inset y)) h st.inv

@@ -1,3 +1,4 @@
+use Rattle.std.specs.Prelude.{Option, Some, None, Result, Ok, Err, ⊤}
 -- Clearing goes by the bottoms alone (2/14): a call is the one without clear at min_y raised to them. The lowest y of rule 1 is then the same, and a search that passes the early answer lands where it landed.
 use mathlib.Core.Path.{◌≡◌, refl, sym, ap, ap₂, ◌∙◌, subst}
 use Prim.Native.Nat.{ℕ, ◌≤◌}
@@ -12,17 +13,12 @@ use Rattle.f32_laws.specs.Numbers.{larger}
 use Rattle.f32_laws.proofs.Tests.{both}
 use Rattle.f32_laws.proofs.Larger.{larger_num, larger_key}
 use Rattle.f32_laws.proofs.Plain.{plain_larger, plain_same}
-use Rattle.float.specs.declared.BandNumber.{BandNumber}
-use Rattle.float.specs.declared.BfcAnswer.{BfcAnswer}
 use Rattle.float.specs.declared.BfcSlot.{BfcSlot}
-use Rattle.float.specs.declared.Bottom.{Bottom}
 use Rattle.float.specs.declared.Clear.{Clear}
-use Rattle.float.specs.declared.ContentAnswer.{ContentAnswer}
 use Rattle.float.specs.declared.ContentSlot.{ContentSlot}
 use Rattle.float.specs.declared.Direction.{Direction}
 use Rattle.float.specs.declared.Refusal.{Refusal}
 use Rattle.float.specs.declared.bfc.BfcInsets.{BfcInsets}
-use Rattle.float.specs.declared.refuse.Check.{Check}
 use Rattle.float.specs.declared.slot.Insets.{Insets}
 use Rattle.float.specs.declared.slot.Sought.{Sought}
 use Rattle.float.specs.Numbers.{most, least, plus_zero, finite, within, offset, all_finite, all_allowed}
@@ -31,7 +27,7 @@ use Rattle.float.specs.Bands.{first_below}
 use Rattle.float.specs.Page.{Page, max_boxes}
 use Rattle.float.specs.Clear.{raise_to, cleared}
 use Rattle.float.specs.Search.{search_from}
-use Rattle.float.specs.Place.{Call, cleaned, input_check, Result, lowest, first_allowed, ask_of, spot_of, refuse, put, admitted, checked, place}
+use Rattle.float.specs.Place.{Call, cleaned, input_check, PlaceResult, lowest, first_allowed, ask_of, spot_of, refuse, put, admitted, checked, place}
 use Rattle.float.specs.Slot.{active, from, landed, seek, ContentCall, content_cleaned, content_check, content_slot, content_asked, content, BfcCall, bfc_cleaned, bfc_check, bfc_insets, bfc_slot, bfc_asked, bfc}
 use Rattle.demands.specs.Runs.{Accepted, F32, raised, unclear, content_unclear, bfc_unclear, Raises}
 use Rattle.demands.proofs.Laws.{Val}
@@ -49,11 +45,11 @@ module _ (m : Float) (v : Val m) (p : Plus m) where
       plain_same (larger_num a w.num) (larger_num b u.num) (plain_larger (plain_larger p q) r) (plain_larger (plain_larger p r) q)
       (omega (arith, larger_key v.num u.num, larger_key v.num w.num, larger_key a w.num, larger_key b u.num))
 
-  raise_swap : (b d : Bottom) → BottomIs Val b → BottomIs Plus b → BottomIs Val d → BottomIs Plus d → raise_to (raise_to m b) d ≡ raise_to (raise_to m d) b
+  raise_swap : (b d : Option Float) → BottomIs Val b → BottomIs Plus b → BottomIs Val d → BottomIs Plus d → raise_to (raise_to m b) d ≡ raise_to (raise_to m d) b
   unfolding raise_to
-  raise_swap Bottom.None d u q w r = refl
-  raise_swap (Bottom.At x) Bottom.None u q w r = refl
-  raise_swap (Bottom.At x) (Bottom.At y) u q w r = swap_two x y u q w r
+  raise_swap None d u q w r = refl
+  raise_swap (Some x) None u q w r = refl
+  raise_swap (Some x) (Some y) u q w r = swap_two x y u q w r
 
 -- ---- a number within the limits is finite, so the checks say the same of both calls
 within_finite : (x : Float) → T (within least most x) → finite x ≡ true
@@ -121,16 +117,16 @@ module _ (p : Page) (g : List Accepted) (v : Inv p g) (u : Upright p) (c : Call)
     pub placed_same : place p c ≡ place p (unclear p (cleaned c))
     unfolding place checked
     placed_same =
-        ap₂ (λ (k : Check) (o : Result). elim k [ Check.Passed ↦ o | Check.Refused n ↦ refuse p n ]) check_same (admitted_same r.stands)
+        ap₂ (λ (k : Result ⊤ Refusal) (o : PlaceResult). elim k [ Ok _ ↦ o | Err n ↦ refuse p n ]) check_same (admitted_same r.stands)
         ∙ sym (ap (checked p) cleaned_same)
 
   -- and else the rules go on as if it had been
-  pub placed_by_rules : input_check (cleaned c) ≡ Check.Passed → T (within least most (cleaned c).min_y) → place p c ≡ admitted p (unclear p (cleaned c))
+  pub placed_by_rules : input_check (cleaned c) ≡ Ok tt → T (within least most (cleaned c).min_y) → place p c ≡ admitted p (unclear p (cleaned c))
   unfolding place checked
   placed_by_rules e t = simp (checked, e) (admitted_same t)
 
 -- ---- a slot question, on any page: where some band ends below min_y, the search lands where it lands without clear at min_y raised
-module _ (p : Page) (clear : Clear) (after : BandNumber) (y : Float) (a : active p.bands y ≡ true) where
+module _ (p : Page) (clear : Clear) (after : Option ℕ) (y : Float) (a : active p.bands y ≡ true) where
   abbrev z : Float
   z = raise_to y (cleared p clear)
 
@@ -171,7 +167,7 @@ module _ (p : Page) (g : List Accepted) (v : Inv p g) (u : Upright p) where
     pub content_same : content p c ≡ content p (content_unclear p (content_cleaned c))
     unfolding content
     content_same =
-        ap₂ (λ (k : Check) (o : ContentSlot). elim k [ Check.Passed ↦ ContentAnswer.Slot o | Check.Refused n ↦ ContentAnswer.Refused n ]) content_check_same (content_by_rules p (clear_of c.clear) c.after (content_cleaned c).min_y a _)
+        ap₂ (λ (k : Result ⊤ Refusal) (o : ContentSlot). elim k [ Ok _ ↦ Ok o | Err n ↦ Err n ]) content_check_same (content_by_rules p (clear_of c.clear) c.after (content_cleaned c).min_y a _)
         ∙ sym (ap (content_asked p) content_cleaned_same)
 
   module _ (c : BfcCall) (f : F32 c.min_y) (r : Raises p c.clear (bfc_cleaned c).min_y) (a : active p.bands (bfc_cleaned c).min_y ≡ true) where
@@ -185,5 +181,5 @@ module _ (p : Page) (g : List Accepted) (v : Inv p g) (u : Upright p) where
     pub bfc_same : bfc p c ≡ bfc p (bfc_unclear p (bfc_cleaned c))
     unfolding bfc
     bfc_same =
-        ap₂ (λ (k : Check) (o : BfcSlot). elim k [ Check.Passed ↦ BfcAnswer.Slot o | Check.Refused n ↦ BfcAnswer.Refused n ]) bfc_check_same (bfc_by_rules p (clear_of c.clear) c.after (bfc_cleaned c).min_y a (direction_of c.direction) (bfc_insets (bfc_cleaned c)))
+        ap₂ (λ (k : Result ⊤ Refusal) (o : BfcSlot). elim k [ Ok _ ↦ Ok o | Err n ↦ Err n ]) bfc_check_same (bfc_by_rules p (clear_of c.clear) c.after (bfc_cleaned c).min_y a (direction_of c.direction) (bfc_insets (bfc_cleaned c)))
         ∙ sym (ap (bfc_asked p) bfc_cleaned_same)

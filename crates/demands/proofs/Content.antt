@@ -1,3 +1,4 @@
+use Rattle.std.specs.Prelude.{None, Result, Ok, Err}
 -- A content question with no containing inset answers the insets of its own height: its search finds the band that `inset_at` reads, and no start is below the height.
 use mathlib.Core.Path.{◌≡◌, refl, sym, ap₂, ◌∙◌, subst}
 use Prim.Native.Nat.{ℕ, ◌≤◌, ◌<◌}
@@ -12,9 +13,7 @@ use Rattle.f32_laws.specs.Numbers.{larger, zero+}
 use Rattle.f32_laws.specs.Key.{Num}
 use Rattle.f32_laws.proofs.Tests.{both}
 use Rattle.f32_laws.proofs.Keys.{lt→key, zero_fin}
-use Rattle.float.specs.declared.BandNumber.{BandNumber}
 use Rattle.float.specs.declared.Clear.{Clear}
-use Rattle.float.specs.declared.ContentAnswer.{ContentAnswer}
 use Rattle.float.specs.declared.FloatDirection.{FloatDirection}
 use Rattle.float.specs.declared.Segment.{Segment}
 use Rattle.float.specs.declared.slot.Insets.{Insets}
@@ -31,6 +30,8 @@ use Rattle.demands.proofs.Heights.{at_is}
 use Rattle.demands.proofs.First.{first_end, first_start, first_none}
 use Rattle.demands.proofs.Input.{known, check_both, plus_fits}
 use Rattle.demands.proofs.Upright.{plus_zero_lem}
+use Rattle.float.specs.declared.Refusal.{Refusal}
+use Rattle.float.specs.declared.ContentSlot.{ContentSlot}
 
 -- the larger of a number and one that is no larger
 larger_first : {x y : Float} → Num binary32 x → Num binary32 y → k y ≤ k x → larger x y ≡ x
@@ -56,7 +57,7 @@ module _ (p : Page) (c : Chain (inf true) p.bands) (y : Float) (v : Val y) where
       larger_first (b.inset s).num ins_zero.num (omega (arith, zero_k, (b.inset s).low))
       ∙ sym (at_is (inf true) l y i s c v.num h (first_start (inf true) l y c v.num (omega arith) h) (lt→key v.num b.end.num (first_end l 0 y h)))
 
-  slot_told : Between p y (content_slot p (both_sides zero+) (seek p Clear.None BandNumber.None y))
+  slot_told : Between p y (content_slot p (both_sides zero+) (seek p Clear.None None y))
   unfolding content_slot seek active cleared raise_to
   slot_told =
       both P (ltb i (length l))
@@ -77,9 +78,9 @@ module _ (p : Page) (c : Chain (inf true) p.bands) (y : Float) (v : Val y) where
       }
 
 -- ---- the answer
-abbrev pub Answers : Page → Float → ContentAnswer → Type 0
-Answers p y (ContentAnswer.Slot s) = Between p y s
-Answers p y (ContentAnswer.Refused n) = Unit {0}
+abbrev pub Answers : Page → Float → Result ContentSlot Refusal → Type 0
+Answers p y (Ok s) = Between p y s
+Answers p y (Err n) = Unit {0}
 
 zero_fits : F32 zero+
 unfolding zero+
@@ -89,7 +90,7 @@ pub content_told : (p : Page) (h : Float) → Chain (inf true) p.bands → F32 h
 unfolding content
 content_told p h c f =
     check_both (Answers p (plus_zero h)) true gs
-    (λ t u. subst (λ (z : Float). Between p (plus_zero h) (content_slot p (both_sides z) (seek p Clear.None BandNumber.None (plus_zero h)))) (sym plus_zero_lem) (slot_told p c (plus_zero h) (known gs (plus_fits h f, (plus_fits zero+ zero_fits, (plus_fits zero+ zero_fits, tt))) t u).0))
+    (λ t u. subst (λ (z : Float). Between p (plus_zero h) (content_slot p (both_sides z) (seek p Clear.None None (plus_zero h)))) (sym plus_zero_lem) (slot_told p c (plus_zero h) (known gs (plus_fits h f, (plus_fits zero+ zero_fits, (plus_fits zero+ zero_fits, tt))) t u).0))
     (λ n o. tt)
   where
     gs : List Given

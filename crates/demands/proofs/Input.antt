@@ -1,3 +1,4 @@
+use Rattle.std.specs.Prelude.{Option, Some, None, Ok, Err}
 -- Numbers that refusals 1 to 3 let pass, by their limits; and rule 1, which raises one of them to kept heights.
 use Prim.Native.Nat.{◌≤◌}
 use native.Mathlib.Omega.{arith}
@@ -12,12 +13,10 @@ use Rattle.f32_laws.specs.Key.{Num, mag}
 use Rattle.f32_laws.proofs.Tests.{both}
 use Rattle.f32_laws.proofs.Keys.{le→key, key→le}
 use Rattle.f32_laws.proofs.Larger.{larger_key}
-use Rattle.float.specs.declared.Bottom.{Bottom}
 use Rattle.float.specs.declared.Clear.{Clear}
 use Rattle.float.specs.declared.FloatDirection.{FloatDirection}
 use Rattle.float.specs.declared.Refusal.{Refusal}
 use Rattle.float.specs.declared.fit.Ask.{Ask}
-use Rattle.float.specs.declared.refuse.Check.{Check}
 use Rattle.float.specs.Numbers.{most, least, plus_zero, finite, within, Given, size, offset, value, allowed, all_finite, all_allowed}
 use Rattle.float.specs.Refuse.{number_of, side_of, clear_of, check_of}
 use Rattle.float.specs.Bands.{on_side}
@@ -94,11 +93,11 @@ unfolding all_allowed
 min_y_lem c t = and_l (allowed (offset c.min_y)) _ (and_r (allowed (size c.height)) _ (and_r (allowed (size c.width)) _ t))
 
 -- a check's two ways: it refuses with 1, 2 or 3
-pub check_both {ℓ} : {A : Type ℓ} (P : A → Type 0) (b : Bool) (gs : List Given) {x : A} {f : Refusal → A} → (T (all_finite gs) → T (all_allowed gs) → P x) → ((n : Refusal) → number_of n ≤ 3 → P (f n)) → P (elim (check_of b gs) [ Check.Passed ↦ x | Check.Refused n ↦ f n ])
+pub check_both {ℓ} : {A : Type ℓ} (P : A → Type 0) (b : Bool) (gs : List Given) {x : A} {f : Refusal → A} → (T (all_finite gs) → T (all_allowed gs) → P x) → ((n : Refusal) → number_of n ≤ 3 → P (f n)) → P (elim (check_of b gs) [ Ok _ ↦ x | Err n ↦ f n ])
 unfolding check_of
 check_both P b gs {x} {f} p q = go b (all_finite gs) (all_allowed gs) p
   where
-    go : (b t u : Bool) → (T t → T u → P x) → P (elim (cond b (cond t (cond u Check.Passed (Check.Refused Refusal.OutOfLimits)) (Check.Refused Refusal.NotFinite)) (Check.Refused Refusal.UnknownCode)) [ Check.Passed ↦ x | Check.Refused n ↦ f n ])
+    go : (b t u : Bool) → (T t → T u → P x) → P (elim (cond b (cond t (cond u (Ok (tt {0})) (Err Refusal.OutOfLimits)) (Err Refusal.NotFinite)) (Err Refusal.UnknownCode)) [ Ok _ ↦ x | Err n ↦ f n ])
     go false t u p = q Refusal.UnknownCode (omega arith)
     go true false u p = q Refusal.NotFinite (omega arith)
     go true true false p = q Refusal.OutOfLimits (omega arith)
@@ -123,31 +122,31 @@ asked p c w n = record {
 }
 
 -- ---- kept heights
-abbrev pub bottom_on : FloatDirection → Page → Bottom
+abbrev pub bottom_on : FloatDirection → Page → Option Float
 bottom_on r p = on_side r p.left_bottom p.right_bottom
 
 -- P holds of the height, if there is one
-abbrev pub BottomIs : (Float → Type 0) → Bottom → Type 0
-BottomIs P Bottom.None = Unit {0}
-BottomIs P (Bottom.At x) = P x
+abbrev pub BottomIs : (Float → Type 0) → Option Float → Type 0
+BottomIs P None = Unit {0}
+BottomIs P (Some x) = P x
 
 -- x is at or above the height that is kept
-abbrev pub AtMost : Float → Bottom → Type 0
-AtMost x Bottom.None = ⊥
-AtMost x (Bottom.At y) = k x ≤ k y
+abbrev pub AtMost : Float → Option Float → Type 0
+AtMost x None = ⊥
+AtMost x (Some y) = k x ≤ k y
 
 -- what the larger of two keeps, rule 1 and the kept heights keep
 module _ (P : Float → Type 0) (f : (x y : Float) → P x → P y → P (larger x y)) where
-  pub raise_is : (y : Float) (b : Bottom) → P y → BottomIs P b → P (raise_to y b)
+  pub raise_is : (y : Float) (b : Option Float) → P y → BottomIs P b → P (raise_to y b)
   unfolding raise_to
-  raise_is y Bottom.None p q = p
-  raise_is y (Bottom.At x) p q = f y x p q
+  raise_is y None p q = p
+  raise_is y (Some x) p q = f y x p q
 
-  pub lower_is : (b d : Bottom) → BottomIs P b → BottomIs P d → BottomIs P (lower b d)
+  pub lower_is : (b d : Option Float) → BottomIs P b → BottomIs P d → BottomIs P (lower b d)
   unfolding lower
-  lower_is Bottom.None d u v = v
-  lower_is (Bottom.At x) Bottom.None u v = u
-  lower_is (Bottom.At x) (Bottom.At y) u v = f x y u v
+  lower_is None d u v = v
+  lower_is (Some x) None u v = u
+  lower_is (Some x) (Some y) u v = f x y u v
 
   -- an accepted box raises its side's
   pub counted_is : (p : Page) (a : Ask) (i y : Float) → ((r : FloatDirection) → BottomIs P (bottom_on r p)) → P (add binary32 y a.height) → (r : FloatDirection) → BottomIs P (bottom_on r (counted p a i y))
@@ -172,25 +171,25 @@ pub larger_val : (x y : Float) → Val x → Val y → Val (larger x y)
 larger_val x y p q = larger_top p (val_top q)
 
 -- a kept height that is raised keeps every height above it, and takes the one it is raised to
-pub lower_keeps : (b : Bottom) (x y : Float) → BottomIs Val b → Val y → AtMost x b → AtMost x (lower b (Bottom.At y))
+pub lower_keeps : (b : Option Float) (x y : Float) → BottomIs Val b → Val y → AtMost x b → AtMost x (lower b (Some y))
 unfolding lower
-lower_keeps Bottom.None x y v w h = absurd h
-lower_keeps (Bottom.At z) x y v w h = omega (arith, larger_key v.num w.num)
+lower_keeps None x y v w h = absurd h
+lower_keeps (Some z) x y v w h = omega (arith, larger_key v.num w.num)
 
-pub lower_takes : (b : Bottom) (x y : Float) → BottomIs Val b → Val y → k x ≤ k y → AtMost x (lower b (Bottom.At y))
+pub lower_takes : (b : Option Float) (x y : Float) → BottomIs Val b → Val y → k x ≤ k y → AtMost x (lower b (Some y))
 unfolding lower
-lower_takes Bottom.None x y v w h = h
-lower_takes (Bottom.At z) x y v w h = omega (arith, larger_key v.num w.num)
+lower_takes None x y v w h = h
+lower_takes (Some z) x y v w h = omega (arith, larger_key v.num w.num)
 
-raise_up : (y : Float) (b : Bottom) → Val y → BottomIs Val b → k y ≤ k (raise_to y b)
+raise_up : (y : Float) (b : Option Float) → Val y → BottomIs Val b → k y ≤ k (raise_to y b)
 unfolding raise_to
-raise_up y Bottom.None v w = omega arith
-raise_up y (Bottom.At z) v w = omega (arith, larger_key v.num w.num)
+raise_up y None v w = omega arith
+raise_up y (Some z) v w = omega (arith, larger_key v.num w.num)
 
-raise_over : (x y : Float) (b : Bottom) → Val y → BottomIs Val b → AtMost x b → k x ≤ k (raise_to y b)
+raise_over : (x y : Float) (b : Option Float) → Val y → BottomIs Val b → AtMost x b → k x ≤ k (raise_to y b)
 unfolding raise_to
-raise_over x y Bottom.None v w h = absurd h
-raise_over x y (Bottom.At z) v w h = omega (arith, larger_key v.num w.num)
+raise_over x y None v w h = absurd h
+raise_over x y (Some z) v w h = omega (arith, larger_key v.num w.num)
 
 -- rule 1 goes no higher than min_y, the ceiling and the cleared bottoms
 module _ (p : Page) (c : Call) (m : Val c.min_y) (h : BottomIs Val p.ceiling) (g : (r : FloatDirection) → BottomIs Val (bottom_on r p)) where
@@ -216,6 +215,6 @@ module _ (p : Page) (c : Call) (m : Val c.min_y) (h : BottomIs Val p.ceiling) (g
   pub low_enough : (y : Float) → Val y → k (lowest p c) ≤ k y → LowEnough p c y
   low_enough y v o = (key→le m.num v.num (omega (arith, lowest_min)), on p.ceiling h (λ x t. omega (arith, lowest_over x t)), on (cleared p (clear_of c.clear)) below (λ x t. omega (arith, lowest_cleared x t)))
     where
-      on : (b : Bottom) → BottomIs Val b → ((x : Float) → AtMost x b → k x ≤ k y) → AtOrBelow b y
-      on Bottom.None w f = tt
-      on (Bottom.At x) w f = key→le w.num v.num (f x (omega arith))
+      on : (b : Option Float) → BottomIs Val b → ((x : Float) → AtMost x b → k x ≤ k y) → AtOrBelow b y
+      on None w f = tt
+      on (Some x) w f = key→le w.num v.num (f x (omega arith))

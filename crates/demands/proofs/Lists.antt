@@ -6,7 +6,7 @@ use native.Mathlib.Omega.{arith}
 use mathlib.Core.List.{List, [], ◌∷◌, ◌++◌}
 use mathlib.Core.Option.{some}
 use lib.ListN.{length, get_or, get_elem?}
-use Rattle.demands.specs.Runs.{Each, Pairs, Some}
+use Rattle.demands.specs.Runs.{Each, Pairs, Any}
 
 module _ {A : Type 0} where
   pub each_append : (P : A → Type 0) (l : List A) (a : A) → Each P l → P a → Each P (l ++ a ∷ [])
@@ -34,17 +34,17 @@ module _ {A : Type 0} where
   each_at P (x ∷ l) zero d p h = h.0
   each_at P (x ∷ l) (suc i) d p h = each_at P l i d p h.1
 
-  pub some_last : (P : A → Type 0) (l : List A) (a : A) → P a → Some P (l ++ a ∷ [])
+  pub some_last : (P : A → Type 0) (l : List A) (a : A) → P a → Any P (l ++ a ∷ [])
   some_last P [] a p = inl p
   some_last P (x ∷ l) a p = inr (some_last P l a p)
 
-  pub some_append : (P Q : A → Type 0) (l : List A) (a : A) → ((x : A) → P x → Q x) → Some P l → Some Q (l ++ a ∷ [])
+  pub some_append : (P Q : A → Type 0) (l : List A) (a : A) → ((x : A) → P x → Q x) → Any P l → Any Q (l ++ a ∷ [])
   some_append P Q [] a f h = absurd h
   some_append P Q (x ∷ l) a f (inl p) = inl (f x p)
   some_append P Q (x ∷ l) a f (inr h) = inr (some_append P Q l a f h)
 
   -- of one that P holds of, what holds of each
-  pub some_each : (P Q : A → Type 0) {R : Type 0} (l : List A) → ((x : A) → P x → Q x → R) → Some P l → Each Q l → R
+  pub some_each : (P Q : A → Type 0) {R : Type 0} (l : List A) → ((x : A) → P x → Q x → R) → Any P l → Each Q l → R
   some_each P Q [] f h g = absurd h
   some_each P Q (x ∷ l) f (inl p) g = f x p g.0
   some_each P Q (x ∷ l) f (inr h) g = some_each P Q l f h g.1

@@ -287,8 +287,8 @@ module _ (l : List Segment) (a : Ask) (F : ℕ) (y0 : Float) (p : Spot) (c : Cha
   abbrev Deep : Type 0
   Deep = p.end < length l → k (add binary32 p.y a.height) ≤ k (get_or l p.end none).end
 
-  abbrev Done : Made → Type 0
-  Done m = (Val m.y × (k p.y ≤ k m.y)) × (T (in_reach (add binary32 m.y a.height)) → MadeOk l a F p.inset Deep m)
+  abbrev Closed : Made → Type 0
+  Closed m = (Val m.y × (k p.y ≤ k m.y)) × (T (in_reach (add binary32 m.y a.height)) → MadeOk l a F p.inset Deep m)
 
   -- from a list that grows from l
   widen : (m : List Segment) (r : Made) (F' : ℕ) → F ≤ F' → Grows l m → MadeOk m a F' p.inset Deep r → MadeOk l a F p.inset Deep r
@@ -305,14 +305,14 @@ module _ (l : List Segment) (a : Ask) (F : ℕ) (y0 : Float) (p : Spot) (c : Cha
   }
 
   module _ (h : p.start < length l) (f : Fit l a F y0 H p) where
-    unsplit : Done (started_at a l p.start p.end p.y)
+    unsplit : Closed (started_at a l p.start p.end p.y)
     unsplit = subst (λ (t : Float). (Val t × (k p.y ≤ k t)) × (T (in_reach (add binary32 t a.height)) → MadeOk l a F p.inset Deep (started_at a l p.start p.end p.y))) (sym (started_y a l p.start p.end p.y)) (
       (g.y, omega arith),
       λ b. widen l (started_at a l p.start p.end p.y) F (omega arith) (grows_refl l)
           (started_ok l a F p.inset Deep q r c d p.start p.end p.y g.first h g.order g.last g.y f.above (λ x t. x t) (λ j u w t. omega (arith, f.leads j u w t, f.placed)) b),
     )
 
-    split : Done (started_at a (split_at l p.start p.y) (suc p.start) (suc p.end) p.y)
+    split : Closed (started_at a (split_at l p.start p.y) (suc p.start) (suc p.end) p.y)
     split = subst (λ (t : Float). (Val t × (k p.y ≤ k t)) × (T (in_reach (add binary32 t a.height)) → MadeOk l a F p.inset Deep (started_at a m (suc p.start) (suc p.end) p.y))) (sym (started_y a m (suc p.start) (suc p.end) p.y)) (
       (g.y, omega arith),
       λ b. widen m (started_at a m (suc p.start) (suc p.end) p.y) F (omega arith) (grows_split (inf true) l p.start p.y c g.y f.up_to)
@@ -326,7 +326,7 @@ module _ (l : List Segment) (a : Ask) (F : ℕ) (y0 : Float) (p : Spot) (c : Cha
         n : length m ≡ suc (length l)
         n = length_split l p.start p.y h
 
-  pub make_ok : Done (make a l p)
+  pub make_ok : Closed (make a l p)
   make_ok =
-      make_ways Done a l p (λ h. unsplit h (g.fit h)) (λ h u. split h (g.fit h))
+      make_ways Closed a l p (λ h. unsplit h (g.fit h)) (λ h u. split h (g.fit h))
       (λ h. let t = chain_last (inf true) l top_low c in ((top_larger t g.y, omega (arith, larger_key t.num g.y.num)), λ b. below_ok l a F p.inset Deep q r c p.y z g.y b))

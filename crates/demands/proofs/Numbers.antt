@@ -1,3 +1,4 @@
+use Rattle.std.specs.Prelude.{Some, None}
 -- The number beside a mark: each band keeps it through splits, added bands and marks, whatever the numbers are; so does every page that calls reach.
 use mathlib.Core.Path.{◌≡◌, refl, sym, ap, ◌∙◌, subst}
 use Prim.Native.Nat.{ℕ, suc}
@@ -7,7 +8,6 @@ use mathlib.Core.Option.{some}
 use lib.Ieee.{Float, binary32, add, lt}
 use lib.ListN.{length, length-append, get_elem?}
 use Rattle.f32_laws.proofs.Tests.{both}
-use Rattle.float.specs.declared.BoxNumber.{BoxNumber}
 use Rattle.float.specs.declared.FloatDirection.{FloatDirection}
 use Rattle.float.specs.declared.Segment.{Segment}
 use Rattle.float.specs.declared.fit.Ask.{Ask}
@@ -25,7 +25,7 @@ use Rattle.demands.proofs.Whole.{last_inset_lem}
 -- a band on a page with this log: a number stands beside each mark and no other, and names its box
 pub record Numbered (g : List Accepted) (b : Segment) : Type 0 where
   pub shown : (s : FloatDirection) → present (box_on s b) ≡ has_float s b
-  pub names : (s : FloatDirection) (k : ℕ) → box_on s b ≡ BoxNumber.At k → Names g s b k
+  pub names : (s : FloatDirection) (k : ℕ) → box_on s b ≡ Some k → Names g s b k
 
 pub record Named (p : Page) (g : List Accepted) : Type 0 where
   pub count : length p.boxes ≡ length g
@@ -39,7 +39,7 @@ fresh_named = record { count = refl; bands = tt }
 names_as : (g h : List Accepted) (s : FloatDirection) (b d : Segment) (k : ℕ) → ((i : ℕ) (a : Accepted) → get_elem? g i ≡ some a → get_elem? h i ≡ some a) → lead s d ≡ lead s b → Names g s b k → Names h s d k
 names_as g h s b d k f e n = record { named = n.named; kth = f _ n.named n.kth; side = n.side; inset = e ∙ n.inset }
 
-pub unnamed : (k : ℕ) → BoxNumber.None ≡ BoxNumber.At k → ⊥
+pub unnamed : (k : ℕ) → None ≡ Some k → ⊥
 unnamed k e = let z : ◌≡◌ {A = ℕ} 0 1 = cc in omega arith
 
 module _ (g : List Accepted) where
@@ -47,7 +47,7 @@ module _ (g : List Accepted) where
   pub bare_numbered : (x y l r : Float) → Numbered g (bare x y l r)
   bare_numbered x y l r = record {
     shown = λ s. elim s as (λ q. present (box_on q (bare x y l r)) ≡ has_float q (bare x y l r)) [ FloatDirection.Left ↦ refl | FloatDirection.Right ↦ refl ];
-    names = λ s. elim s as (λ q. (k : ℕ) → box_on q (bare x y l r) ≡ BoxNumber.At k → Names g q (bare x y l r) k) [ FloatDirection.Left ↦ λ k e. absurd (unnamed k e) | FloatDirection.Right ↦ λ k e. absurd (unnamed k e) ];
+    names = λ s. elim s as (λ q. (k : ℕ) → box_on q (bare x y l r) ≡ Some k → Names g q (bare x y l r) k) [ FloatDirection.Left ↦ λ k e. absurd (unnamed k e) | FloatDirection.Right ↦ λ k e. absurd (unnamed k e) ];
   }
 
   -- from x to y
@@ -62,20 +62,20 @@ module _ (g : List Accepted) where
   marked_numbered : (a : Accepted) (b : Segment) → Numbered (g ++ a ∷ []) b → Numbered (g ++ a ∷ []) (marked (side_in a) (far_inset a) (length g) b)
   marked_numbered a b n = go (side_in a) refl
     where
-      new : (k : ℕ) → BoxNumber.At (length g) ≡ BoxNumber.At k → get_elem? (g ++ a ∷ []) k ≡ some a
+      new : (k : ℕ) → Some (length g) ≡ Some k → get_elem? (g ++ a ∷ []) k ≡ some a
       new k e = let z : length g ≡ k = cc in subst (λ (j : ℕ). get_elem? (g ++ a ∷ []) j ≡ some a) z (kth_last g a)
 
       go : (r : FloatDirection) → side_in a ≡ r → Numbered (g ++ a ∷ []) (marked r (far_inset a) (length g) b)
       go FloatDirection.Left u = record {
         shown = λ s. elim s as (λ q. present (box_on q (marked FloatDirection.Left (far_inset a) (length g) b)) ≡ has_float q (marked FloatDirection.Left (far_inset a) (length g) b)) [ FloatDirection.Left ↦ refl | FloatDirection.Right ↦ n.shown FloatDirection.Right ];
-        names = λ s. elim s as (λ q. (k : ℕ) → box_on q (marked FloatDirection.Left (far_inset a) (length g) b) ≡ BoxNumber.At k → Names (g ++ a ∷ []) q (marked FloatDirection.Left (far_inset a) (length g) b) k) [
+        names = λ s. elim s as (λ q. (k : ℕ) → box_on q (marked FloatDirection.Left (far_inset a) (length g) b) ≡ Some k → Names (g ++ a ∷ []) q (marked FloatDirection.Left (far_inset a) (length g) b) k) [
           | FloatDirection.Left ↦ λ k e. record { named = a; kth = new k e; side = u; inset = refl }
           | FloatDirection.Right ↦ λ k e. names_as (g ++ a ∷ []) (g ++ a ∷ []) FloatDirection.Right b _ k (λ i x h. h) refl (n.names FloatDirection.Right k e)
         ];
       }
       go FloatDirection.Right u = record {
         shown = λ s. elim s as (λ q. present (box_on q (marked FloatDirection.Right (far_inset a) (length g) b)) ≡ has_float q (marked FloatDirection.Right (far_inset a) (length g) b)) [ FloatDirection.Left ↦ n.shown FloatDirection.Left | FloatDirection.Right ↦ refl ];
-        names = λ s. elim s as (λ q. (k : ℕ) → box_on q (marked FloatDirection.Right (far_inset a) (length g) b) ≡ BoxNumber.At k → Names (g ++ a ∷ []) q (marked FloatDirection.Right (far_inset a) (length g) b) k) [
+        names = λ s. elim s as (λ q. (k : ℕ) → box_on q (marked FloatDirection.Right (far_inset a) (length g) b) ≡ Some k → Names (g ++ a ∷ []) q (marked FloatDirection.Right (far_inset a) (length g) b) k) [
           | FloatDirection.Left ↦ λ k e. names_as (g ++ a ∷ []) (g ++ a ∷ []) FloatDirection.Left b _ k (λ i x h. h) refl (n.names FloatDirection.Left k e)
           | FloatDirection.Right ↦ λ k e. record { named = a; kth = new k e; side = u; inset = refl }
         ];

@@ -1,3 +1,4 @@
+use Rattle.std.specs.Prelude.{Option, Some, None, Result, Ok, Err, ⊤}
 -- The promises over any sequence of calls from a fresh page, and CSS rules 1, 5 and 7. To read them takes the definitions and no other proof.
 use mathlib.Core.Path.{◌≡◌, refl, sym, ap, subst}
 use Prim.Native.Nat.{ℕ, ◌+◌, ◌≤◌, ◌<◌}
@@ -7,24 +8,16 @@ use lib.Dec.{T}
 use lib.Ieee.{Float, inf, binary32, add, sub, lt, le, eq}
 use lib.ListN.{length, get_or}
 use Rattle.f32_laws.specs.Numbers.{zero+}
-use Rattle.float.specs.declared.BandNumber.{BandNumber}
-use Rattle.float.specs.declared.Bottom.{Bottom}
-use Rattle.float.specs.declared.BoxNumber.{BoxNumber}
 use Rattle.float.specs.declared.Clear.{Clear}
-use Rattle.float.specs.declared.ContentAnswer.{ContentAnswer}
 use Rattle.float.specs.declared.ContentSlot.{ContentSlot}
 use Rattle.float.specs.declared.Direction.{Direction}
-use Rattle.float.specs.declared.Done.{Done}
 use Rattle.float.specs.declared.FloatContext.{FloatContext}
 use Rattle.float.specs.declared.FloatDirection.{FloatDirection}
 use Rattle.float.specs.declared.FloatIntrinsicWidthCalculator.{FloatIntrinsicWidthCalculator}
-use Rattle.float.specs.declared.Innermost.{Innermost}
-use Rattle.float.specs.declared.PlaceAnswer.{PlaceAnswer}
 use Rattle.float.specs.declared.Refusal.{Refusal}
 use Rattle.float.specs.declared.Segment.{Segment}
 use Rattle.float.specs.declared.fit.Ask.{Ask}
 use Rattle.float.specs.declared.bfc.BfcInsets.{BfcInsets}
-use Rattle.float.specs.declared.refuse.Check.{Check}
 use Rattle.float.specs.declared.slot.Insets.{Insets}
 use Rattle.float.specs.Numbers.{plus_zero, in_reach}
 use Rattle.float.specs.Refuse.{side_of}
@@ -54,6 +47,7 @@ use Rattle.demands.proofs.Cleared.{placed_same, content_same, bfc_same, placed_b
 use Rattle.demands.proofs.Reached.{named, reached, upright, deep, sunk, grown, sinking, reached64}
 use Rattle.demands.proofs.Edges.{exact_edges, seven, apart}
 use Rattle.demands.proofs.Said.{edges, held_inset, no_smaller, told_names, told_unmarked, passed, page64, joins_ins, joins64, taken_in, taken_marked, ends_in_bands, each_boxed, each_standing, clear_pairs}
+use Rattle.float.specs.declared.Position.{Position}
 
 -- ---- any numbers: `os` is what was called so far
 
@@ -82,12 +76,12 @@ pub two_bands_more : (os : List Act) (c : Call) → length (bands_in (next (afte
 two_bands_more os c = subst (λ (q : Page). length q.bands ≤ length (bands_in (after os)) + 2) (sym (page_placed (after os).struct c)) (place_more (page_in (after os)) c)
 
 -- on n bands it takes at most 2n steps
-pub steps_at_most : (os : List Act) (c : Call) (x y : Float) (k : ℕ) → (place_of (after os).struct c).answer ≡ PlaceAnswer.At x y k → k ≤ length (bands_in (after os)) + length (bands_in (after os))
+pub steps_at_most : (os : List Act) (c : Call) (x y : Float) (k : ℕ) → (place_of (after os).struct c).answer ≡ Ok (record { x = x; y = y; steps = k }) → k ≤ length (bands_in (after os)) + length (bands_in (after os))
 unfolding place_of
 steps_at_most os c x y k e = subst (StepsTo (length (bands_in (after os)))) e (place_few (page_in (after os)) c)
 
 -- the start band is left whole or split strictly inside; then so is the end band, of the bands as they stand
-pub splits_inside : (os : List Act) (c : Call) → Handed F32 os → Each F32 (handed (box c)) → input_check (cleaned c) ≡ Check.Passed → (spot_of (page_in (after os)) (cleaned c)).start < length (bands_in (after os))
+pub splits_inside : (os : List Act) (c : Call) → Handed F32 os → Each F32 (handed (box c)) → input_check (cleaned c) ≡ Ok tt → (spot_of (page_in (after os)) (cleaned c)).start < length (bands_in (after os))
     → StartSplit (ask_of (page_in (after os)) (cleaned c)) (bands_in (after os)) (spot_of (page_in (after os)) (cleaned c))
 splits_inside os c f g e h =
     let p = page_in (after os) in
@@ -98,16 +92,16 @@ pub end_splits_inside : (a : Ask) (l : List Segment) (s e : ℕ) (y : Float) →
 end_splits_inside = end_split
 
 -- a refused call hands back the very struct, or the very calculator, whichever it was given
-pub refused_box : (p : FloatContext) (c : Call) (n : Refusal) → (place_of p c).answer ≡ PlaceAnswer.Refused n → (place_of p c).page ≡ p
+pub refused_box : (p : FloatContext) (c : Call) (n : Refusal) → (place_of p c).answer ≡ Err n → (place_of p c).page ≡ p
 unfolding place_of
-refused_box p c n e = subst (λ (a : PlaceAnswer). placed_page a (place (page_of p) c).page p ≡ p) (sym e) refl
+refused_box p c n e = subst (λ (a : Result Position Refusal). placed_page a (place (page_of p) c).page p ≡ p) (sym e) refl
 
-pub refused_width : (p : FloatContext) (w : Float) (n : Refusal) → (width_of p w).answer ≡ Done.Refused n → (width_of p w).page ≡ p
+pub refused_width : (p : FloatContext) (w : Float) (n : Refusal) → (width_of p w).answer ≡ Err n → (width_of p w).page ≡ p
 unfolding width_of
-refused_width p w n e = subst (λ (d : Done). if_done d (stored (with_width (page_of p) (plus_zero w)) p) p ≡ p) (sym e) refl
+refused_width p w n e = subst (λ (d : Result ⊤ Refusal). if_done d (stored (with_width (page_of p) (plus_zero w)) p) p ≡ p) (sym e) refl
 
-pub refused_add : (c : FloatIntrinsicWidthCalculator) (w : Float) (side clear : ℕ) (n : Refusal) → (add_of c w side clear).answer ≡ Done.Refused n → (add_of c w side clear).calculator ≡ c
-refused_add c w side clear n e = subst (λ (d : Done). LeftAs c (record { answer = d; calculator = (add_of c w side clear).calculator })) e (add_left c w side clear)
+pub refused_add : (c : FloatIntrinsicWidthCalculator) (w : Float) (side clear : ℕ) (n : Refusal) → (add_of c w side clear).answer ≡ Err n → (add_of c w side clear).calculator ≡ c
+refused_add c w side clear n e = subst (λ (d : Result ⊤ Refusal). LeftAs c (record { answer = d; calculator = (add_of c w side clear).calculator })) e (add_left c w side clear)
 
 -- rule 5: no box is put higher than an earlier one
 pub rule_5 : (os : List Act) → Handed F32 os → Pairs (λ a b. T (le a.y b.y)) (after os).accepted
@@ -122,21 +116,21 @@ pub x_by_side : (os : List Act) → Handed F32 os → Each (λ a. a.x ≡ x_from
 x_by_side os f = (reached os f).answers
 
 -- the answered y is at least min_y, the ceiling and the cleared bottoms of the page before
-pub y_low_enough : (os : List Act) (c : Call) → Handed F32 os → Each F32 (handed (box c)) → (x y : Float) (k : ℕ) → (place_of (after os).struct c).answer ≡ PlaceAnswer.At x y k → LowEnough (page_in (after os)) (cleaned c) y
+pub y_low_enough : (os : List Act) (c : Call) → Handed F32 os → Each F32 (handed (box c)) → (x y : Float) (k : ℕ) → (place_of (after os).struct c).answer ≡ Ok (record { x = x; y = y; steps = k }) → LowEnough (page_in (after os)) (cleaned c) y
 unfolding place_of
 y_low_enough os c f g x y k e = subst (Lies (page_in (after os)) (cleaned c)) e (place_ok (page_in (after os)) (after os).accepted c (reached os f) g).lies
 
 -- refusal 6 comes of the bottom alone: placed inset plus width is in reach
-pub inset_never_far : (os : List Act) (c : Call) → Handed F32 os → Each F32 (handed (box c)) → input_check (cleaned c) ≡ Check.Passed → T (in_reach (add binary32 (spot_of (page_in (after os)) (cleaned c)).inset (cleaned c).width))
+pub inset_never_far : (os : List Act) (c : Call) → Handed F32 os → Each F32 (handed (box c)) → input_check (cleaned c) ≡ Ok tt → T (in_reach (add binary32 (spot_of (page_in (after os)) (cleaned c)).inset (cleaned c).width))
 inset_never_far os c f g e = let n = passed c g e in inset_in_reach (page_in (after os)) (after os).accepted (cleaned c) (reached os f) n.0 n.1
 
 -- so a box of no height is never refused with 6
-pub flat_never_far : (os : List Act) (c : Call) → Handed F32 os → Each F32 (handed (box c)) → T (eq (cleaned c).height zero+) → (place_of (after os).struct c).answer ≡ PlaceAnswer.Refused Refusal.TooFar → ⊥
+pub flat_never_far : (os : List Act) (c : Call) → Handed F32 os → Each F32 (handed (box c)) → T (eq (cleaned c).height zero+) → (place_of (after os).struct c).answer ≡ Err Refusal.TooFar → ⊥
 unfolding place_of
 flat_never_far os c f g = flat_not_6 (page_in (after os)) (after os).accepted c (reached os f) g
 
 -- a content question at a height, with insets 0, no clear and after none, answers that height and what stands there
-pub content_insets : (os : List Act) → Handed F32 os → (h : Float) → F32 h → (s : ContentSlot) → content (page_in (after os)) (content_at h) ≡ ContentAnswer.Slot s → Between (page_in (after os)) (plus_zero h) s
+pub content_insets : (os : List Act) → Handed F32 os → (h : Float) → F32 h → (s : ContentSlot) → content (page_in (after os)) (content_at h) ≡ Ok s → Between (page_in (after os)) (plus_zero h) s
 content_insets os f h g s e = subst (Answers (page_in (after os)) (plus_zero h)) e (content_told (page_in (after os)) h (reached os f).chain g)
 
 -- the box that a band names (1/14): on either side a number is present exactly where the mark is set
@@ -144,15 +138,15 @@ pub number_with_mark : (os : List Act) → Each (λ b. (s : FloatDirection) → 
 number_with_mark os = each_map (Numbered (after os).accepted) _ (bands_in (after os)) (λ b n. n.shown) (named os).bands
 
 -- it names the box of that number: of that side, and its inset plus width, rounded, is the band's inset
-pub number_names : (os : List Act) → Each (λ b. (s : FloatDirection) (k : ℕ) → box_on s b ≡ BoxNumber.At k → Names (after os).accepted s b k) (bands_in (after os))
+pub number_names : (os : List Act) → Each (λ b. (s : FloatDirection) (k : ℕ) → box_on s b ≡ Some k → Names (after os).accepted s b k) (bands_in (after os))
 number_names os = each_map (Numbered (after os).accepted) _ (bands_in (after os)) (λ b n. n.names) (named os).bands
 
 -- and `innermost` answers it
-pub innermost_told : (os : List Act) (i s k : ℕ) → innermost (page_in (after os)) (BandNumber.At i) s ≡ Innermost.Answer (BoxNumber.At k) → Names (after os).accepted (side_of s) (get_or (bands_in (after os)) i none) k
+pub innermost_told : (os : List Act) (i s k : ℕ) → innermost (page_in (after os)) (Some i) s ≡ Ok (Some k) → Names (after os).accepted (side_of s) (get_or (bands_in (after os)) i none) k
 innermost_told os = told_names (page_in (after os)) (after os).accepted (named os)
 
 -- or none, where the mark is not set or there is no such band
-pub innermost_none : (os : List Act) (i s : ℕ) → innermost (page_in (after os)) (BandNumber.At i) s ≡ Innermost.Answer BoxNumber.None → has_float (side_of s) (get_or (bands_in (after os)) i none) ≡ false
+pub innermost_none : (os : List Act) (i s : ℕ) → innermost (page_in (after os)) (Some i) s ≡ Ok None → has_float (side_of s) (get_or (bands_in (after os)) i none) ≡ false
 innermost_none os = told_unmarked (page_in (after os)) (after os).accepted (named os)
 
 -- clearing goes by the cleared bottoms alone (2/14): a placement with any clear is the one without clear at min_y raised to them, same answer, same page
@@ -170,17 +164,17 @@ pub clear_bfc : (os : List Act) (c : BfcCall) → Handed F32 os → F32 c.min_y 
 clear_bfc os c f = bfc_same (page_in (after os)) (after os).accepted (reached os f) (upright os f) c
 
 -- a min_y raised beyond 65,536 could not be handed in: there too the rules after refusals 1 to 3 give the same, of a question on any page
-pub clear_placement_far : (os : List Act) (c : Call) → Handed F32 os → Each F32 (handed (box c)) → input_check (cleaned c) ≡ Check.Passed → place (page_in (after os)) c ≡ admitted (page_in (after os)) (unclear (page_in (after os)) (cleaned c))
+pub clear_placement_far : (os : List Act) (c : Call) → Handed F32 os → Each F32 (handed (box c)) → input_check (cleaned c) ≡ Ok tt → place (page_in (after os)) c ≡ admitted (page_in (after os)) (unclear (page_in (after os)) (cleaned c))
 clear_placement_far os c f g e = placed_by_rules (page_in (after os)) (after os).accepted (reached os f) (upright os f) c g.1.1.0 e (min_y_lem (cleaned c) (passed c g e).1)
 
-pub clear_content_far : (p : Page) (k : Clear) (n : BandNumber) (y : Float) → active p.bands y ≡ true → (i : Insets) → content_slot p i (seek p k n y) ≡ content_slot p i (seek p Clear.None n (raise_to y (cleared p k)))
+pub clear_content_far : (p : Page) (k : Clear) (n : Option ℕ) (y : Float) → active p.bands y ≡ true → (i : Insets) → content_slot p i (seek p k n y) ≡ content_slot p i (seek p Clear.None n (raise_to y (cleared p k)))
 clear_content_far = content_by_rules
 
-pub clear_bfc_far : (p : Page) (k : Clear) (n : BandNumber) (y : Float) → active p.bands y ≡ true → (d : Direction) (i : BfcInsets) → bfc_slot p d i (seek p k n y) ≡ bfc_slot p d i (seek p Clear.None n (raise_to y (cleared p k)))
+pub clear_bfc_far : (p : Page) (k : Clear) (n : Option ℕ) (y : Float) → active p.bands y ≡ true → (d : Direction) (i : BfcInsets) → bfc_slot p d i (seek p k n y) ≡ bfc_slot p d i (seek p Clear.None n (raise_to y (cleared p k)))
 clear_bfc_far = bfc_by_rules
 
 -- rule 2 never decides: the first band from the kept firsts on that ends below min_y, raised by rule 1, is the first of all
-pub firsts_idle : (os : List Act) (c : Call) → Handed F32 os → Each F32 (handed (box c)) → input_check (cleaned c) ≡ Check.Passed
+pub firsts_idle : (os : List Act) (c : Call) → Handed F32 os → Each F32 (handed (box c)) → input_check (cleaned c) ≡ Ok tt
     → first_below (bands_in (after os)) (first_allowed (page_in (after os))) (lowest (page_in (after os)) (cleaned c)) ≡ first_below (bands_in (after os)) 0 (lowest (page_in (after os)) (cleaned c))
 firsts_idle os c f g e = first_idle (page_in (after os)) (after os).accepted (cleaned c) (reached os f) (passed c g e).0 (sunk os f)
 
@@ -189,7 +183,7 @@ pub depth_largest : (os : List Act) → Handed F32 os → Largest (after os).acc
 unfolding depth_of
 depth_largest os f = largest _ _ _ _ _ (deep os f)
 
-pub depth_alone : (os : List Act) → Handed F32 os → (d : Bottom) → Largest (after os).accepted d → d ≡ depth_of (page_in (after os))
+pub depth_alone : (os : List Act) → Handed F32 os → (d : Option Float) → Largest (after os).accepted d → d ≡ depth_of (page_in (after os))
 unfolding depth_of
 depth_alone os f = alone _ _ _ _ _ (deep os f)
 
@@ -199,7 +193,7 @@ unfolding depth_of cleared
 depth_of_sides os f = (deep os f).sides
 
 -- whatever is called after on that page, accepted or refused, it never falls
-pub depth_never_falls : (os more : List Act) → Handed F32 os → Handed F32 more → Each Stays more → (x : Float) → depth_of (page_in (after os)) ≡ Bottom.At x → AtOrAbove x (depth_of (page_in (run (after os) more)))
+pub depth_never_falls : (os more : List Act) → Handed F32 os → Handed F32 more → Each Stays more → (x : Float) → depth_of (page_in (after os)) ≡ Some x → AtOrAbove x (depth_of (page_in (run (after os) more)))
 unfolding depth_of
 depth_never_falls os more f g s x e =
     let v = sinking os more f g s in
@@ -217,7 +211,7 @@ pub page_in_64ths : (os : List Act) → Handed F32 os → Handed Whole64 os → 
 page_in_64ths os f s = page64 (page_in (after os)) (after os).accepted (reached64 os f s) (deep os f)
 
 -- 0.001 never decides: whatever insets the search asks for, the fit test says the same without it
-pub tolerance_idle : (os : List Act) (c : Call) → Handed F32 os → Handed Whole64 os → Each F32 (handed (box c)) → Each Whole64 (handed (box c)) → input_check (cleaned c) ≡ Check.Passed
+pub tolerance_idle : (os : List Act) (c : Call) → Handed F32 os → Handed Whole64 os → Each F32 (handed (box c)) → Each Whole64 (handed (box c)) → input_check (cleaned c) ≡ Ok tt
     → (lead trail : Float) → Joins (side_of c.side) (bands_in (after os)) lead → Joins (other (side_of c.side)) (bands_in (after os)) trail
     → fits (ask_of (page_in (after os)) (cleaned c)) lead trail ≡ fits_exactly (ask_of (page_in (after os)) (cleaned c)) lead trail
 tolerance_idle os c f s g h e l t j i =

@@ -1,3 +1,4 @@
+use Rattle.std.specs.Prelude.{Err}
 -- What refusal 6 never comes of: the fit test keeps a placed inset plus width in reach, and no y lies beyond what the page holds.
 use mathlib.Core.Path.{◌≡◌, refl, ap, subst}
 use Prim.Native.Nat.{ℕ, ◌+◌, ◌≤◌, ◌<◌}
@@ -20,7 +21,6 @@ use Rattle.f32_laws.proofs.Larger.{larger_key}
 use Rattle.f32_laws.proofs.Sums.{add_num', add_mono, add_mono_l, add_mono_num, sub_num, sub_mono}
 use Rattle.f32_laws.proofs.Rounding.{add_key, srnd_fix}
 use Rattle.f32_laws.proofs.Tolerance.{tol_fin}
-use Rattle.float.specs.declared.PlaceAnswer.{PlaceAnswer}
 use Rattle.float.specs.declared.Refusal.{Refusal}
 use Rattle.float.specs.declared.Segment.{Segment}
 use Rattle.float.specs.declared.fit.Ask.{Ask}
@@ -29,7 +29,7 @@ use Rattle.float.specs.Numbers.{most, farthest, in_reach, all_allowed}
 use Rattle.float.specs.Refuse.{number_of, side_of}
 use Rattle.float.specs.Page.{Page, max_boxes}
 use Rattle.float.specs.Fit.{passes, placed_at}
-use Rattle.float.specs.Place.{Call, cleaned, numbers, Result, lowest, first_allowed, ask_of, spot_of, near, flat, put, admitted, checked, place}
+use Rattle.float.specs.Place.{Call, cleaned, numbers, PlaceResult, lowest, first_allowed, ask_of, spot_of, near, flat, put, admitted, checked, place}
 use Rattle.demands.specs.Runs.{Each, Accepted, box, handed, F32}
 use Rattle.demands.proofs.Halves.{lead_half}
 use Rattle.demands.proofs.Laws.{k, B, Ins, far_twice, zero_k, ins_zero, ins_val, ins_fin, val_fin, larger_ins, sum_num, farthest_num, or_right}
@@ -112,7 +112,7 @@ module _ (p : Page) (g : List Accepted) (c : Call) (v : Inv p g) (n : Each Known
       (key→le (sum_num y h) farthest_num (omega (arith, add_key (val_fin y) (ins_fin h), ap (λ (z : ℕ). srnd binary32 (k (spot_of p c).y + z)) e, ap (λ (z : ℕ). srnd binary32 (k (spot_of p c).y + z)) zero_k, srnd_fix (val_fin y), y.high)))
       inset_in_reach
 
-pub flat_not_6 : (p : Page) (g : List Accepted) (c : Call) → Inv p g → Each F32 (handed (box c)) → T (eq (cleaned c).height zero+) → (place p c).answer ≡ PlaceAnswer.Refused Refusal.TooFar → ⊥
+pub flat_not_6 : (p : Page) (g : List Accepted) (c : Call) → Inv p g → Each F32 (handed (box c)) → T (eq (cleaned c).height zero+) → (place p c).answer ≡ Err Refusal.TooFar → ⊥
 unfolding place checked admitted put flat
 flat_not_6 p g c v f h =
     check_both P (ltb c.side 2 && ltb c.clear 4) (numbers d)
@@ -129,8 +129,8 @@ flat_not_6 p g c v f h =
     s : Spot
     s = spot_of p d
 
-    P : Result → Type 0
-    P r = r.answer ≡ PlaceAnswer.Refused Refusal.TooFar → ⊥
+    P : PlaceResult → Type 0
+    P r = r.answer ≡ Err Refusal.TooFar → ⊥
 
     never : ◌≡◌ {A = ℕ} 0 1 → ⊥
     never o = omega arith

@@ -1,3 +1,4 @@
+use Rattle.std.specs.Prelude.{Option, Some, None, Result, Ok, Err, ⊤}
 -- From the invariants to the words of the promises.
 use mathlib.Core.Path.{◌≡◌, refl, sym, ap, ◌∙◌, subst}
 use Prim.Native.Nat.{ℕ, ◌≤◌, ◌<◌}
@@ -13,15 +14,10 @@ use Rattle.f32_laws.specs.Key.{Num}
 use Rattle.f32_laws.proofs.Keys.{le→key, key→le, lt→key}
 use Rattle.f32_laws.proofs.Larger.{larger_key, larger_num}
 use Rattle.f32_laws.proofs.Is64.{at64_is64}
-use Rattle.float.specs.declared.BandNumber.{BandNumber}
-use Rattle.float.specs.declared.Bottom.{Bottom}
-use Rattle.float.specs.declared.BoxNumber.{BoxNumber}
 use Rattle.float.specs.declared.FloatDirection.{FloatDirection}
-use Rattle.float.specs.declared.Innermost.{Innermost}
 use Rattle.float.specs.declared.PlacedFloatedBox.{PlacedFloatedBox}
 use Rattle.float.specs.declared.Refusal.{Refusal}
 use Rattle.float.specs.declared.Segment.{Segment}
-use Rattle.float.specs.declared.refuse.Check.{Check}
 use Rattle.float.specs.Numbers.{Given, all_finite, all_allowed}
 use Rattle.float.specs.Refuse.{side_of, check_of}
 use Rattle.float.specs.Bands.{lead, has_float, box_on, none}
@@ -80,13 +76,13 @@ pub held_inset : (l : List Segment) → Chain (inf true) l → (s : FloatDirecti
 held_inset l c s h i f o u w = at_lead s h l ∙ ap (lead s) (held_band l c h i f o (u, w))
 
 -- ---- the box that a band names
-told : (p : Page) (i s : ℕ) (n : BoxNumber) → innermost p (BandNumber.At i) s ≡ Innermost.Answer n → recorded_on (side_of s) (get_or p.bands i none) ≡ n
+told : (p : Page) (i s : ℕ) (n : Option ℕ) → innermost p (Some i) s ≡ Ok n → recorded_on (side_of s) (get_or p.bands i none) ≡ n
 unfolding innermost
 told p i s n e = go (check_of (ltb s 2) []) e
   where
-    go : (c : Check) → (elim c [ Check.Passed ↦ Innermost.Answer (recorded_on (side_of s) (get_or p.bands i none)) | Check.Refused m ↦ Innermost.Refused m ]) ≡ Innermost.Answer n → recorded_on (side_of s) (get_or p.bands i none) ≡ n
-    go Check.Passed e = cc
-    go (Check.Refused m) e = absurd (let z : ◌≡◌ {A = ℕ} 0 1 = cc in omega arith)
+    go : (c : Result ⊤ Refusal) → ◌≡◌ {A = Result (Option ℕ) Refusal} (elim c [ Ok _ ↦ Ok (recorded_on (side_of s) (get_or p.bands i none)) | Err m ↦ Err m ]) (Ok n) → recorded_on (side_of s) (get_or p.bands i none) ≡ n
+    go (Ok _) e = cc
+    go (Err m) e = absurd (let z : ◌≡◌ {A = ℕ} 0 1 = cc in omega arith)
 
 -- a read past the last band is of one with no float
 module _ (p : Page) (g : List Accepted) (v : Named p g) (i s : ℕ) where
@@ -96,41 +92,41 @@ module _ (p : Page) (g : List Accepted) (v : Named p g) (i s : ℕ) where
   band_numbered : Numbered g band
   band_numbered = each_at (Numbered g) p.bands i none (bare_numbered g nan nan nan nan) v.bands
 
-  pub told_names : (n : ℕ) → innermost p (BandNumber.At i) s ≡ Innermost.Answer (BoxNumber.At n) → Names g (side_of s) band n
-  told_names n e = band_numbered.names (side_of s) n (go (has_float (side_of s) band) (told p i s (BoxNumber.At n) e))
+  pub told_names : (n : ℕ) → innermost p (Some i) s ≡ Ok (Some n) → Names g (side_of s) band n
+  told_names n e = band_numbered.names (side_of s) n (go (has_float (side_of s) band) (told p i s (Some n) e))
     where
-      go : (t : Bool) → cond t (box_on (side_of s) band) BoxNumber.None ≡ BoxNumber.At n → box_on (side_of s) band ≡ BoxNumber.At n
+      go : (t : Bool) → cond t (box_on (side_of s) band) None ≡ Some n → box_on (side_of s) band ≡ Some n
       go true e = e
       go false e = absurd (unnamed n e)
 
-  pub told_unmarked : innermost p (BandNumber.At i) s ≡ Innermost.Answer BoxNumber.None → has_float (side_of s) band ≡ false
-  told_unmarked e = go (has_float (side_of s) band) (box_on (side_of s) band) (band_numbered.shown (side_of s)) (told p i s BoxNumber.None e)
+  pub told_unmarked : innermost p (Some i) s ≡ Ok None → has_float (side_of s) band ≡ false
+  told_unmarked e = go (has_float (side_of s) band) (box_on (side_of s) band) (band_numbered.shown (side_of s)) (told p i s None e)
     where
-      go : (t : Bool) (n : BoxNumber) → present n ≡ t → cond t n BoxNumber.None ≡ BoxNumber.None → t ≡ false
+      go : (t : Bool) (n : Option ℕ) → present n ≡ t → cond t n None ≡ None → t ≡ false
       go true n u e = sym u ∙ ap present e
       go false n u e = refl
 
 -- ---- a check that passed
-check_passed : (b : Bool) (gs : List Given) → check_of b gs ≡ Check.Passed → T (all_finite gs) × T (all_allowed gs)
+check_passed : (b : Bool) (gs : List Given) → check_of b gs ≡ Ok tt → T (all_finite gs) × T (all_allowed gs)
 unfolding check_of
 check_passed b gs e = go b (all_finite gs) (all_allowed gs) e
   where
-    go : (b t u : Bool) → cond b (cond t (cond u Check.Passed (Check.Refused Refusal.OutOfLimits)) (Check.Refused Refusal.NotFinite)) (Check.Refused Refusal.UnknownCode) ≡ Check.Passed → T t × T u
+    go : (b t u : Bool) → ◌≡◌ {A = Result ⊤ Refusal} (cond b (cond t (cond u (Ok tt) (Err Refusal.OutOfLimits)) (Err Refusal.NotFinite)) (Err Refusal.UnknownCode)) (Ok tt) → T t × T u
     go true true true e = (tt, tt)
     go true true false e = absurd (let z : ◌≡◌ {A = ℕ} 0 1 = cc in omega arith)
     go true false u e = absurd (let z : ◌≡◌ {A = ℕ} 0 1 = cc in omega arith)
     go false t u e = absurd (let z : ◌≡◌ {A = ℕ} 0 1 = cc in omega arith)
 
-pub passed : (c : Call) → Each F32 (handed (box c)) → input_check (cleaned c) ≡ Check.Passed → Each Known (numbers (cleaned c)) × T (all_allowed (numbers (cleaned c)))
+pub passed : (c : Call) → Each F32 (handed (box c)) → input_check (cleaned c) ≡ Ok tt → Each Known (numbers (cleaned c)) × T (all_allowed (numbers (cleaned c)))
 passed c f e = let t = check_passed (ltb c.side 2 && ltb c.clear 4) (numbers (cleaned c)) e in (known (numbers (cleaned c)) (cleaned_fits c f) t.0 t.1, t.1)
 
 -- ---- 64ths
 said64 : (x : Float) → Q x → T (is64 x)
 said64 x q = subst (λ (z : Float). T (is64 z)) (sym q.is) (at64_is64 q.n (omega (arith, q.high, two)))
 
-bottom64 : (b : Bottom) → BottomIs Q b → Bottom64 b
-bottom64 Bottom.None q = tt
-bottom64 (Bottom.At x) q = said64 x q
+bottom64 : (b : Option Float) → BottomIs Q b → Bottom64 b
+bottom64 None q = tt
+bottom64 (Some x) q = said64 x q
 
 boxes64 : (g : List Accepted) → Each Box64 g → Each (λ (b : PlacedFloatedBox). T (is64 b.width) × T (is64 b.height) × T (is64 b.x_inset) × T (is64 b.y)) (map box_in g)
 boxes64 [] h = tt

@@ -1,3 +1,4 @@
+use Rattle.std.specs.Prelude.{Result, Ok, Err}
 -- A placement on n bands takes at most 2n steps: each step moves the start or the end on, so the steps are at most the two numbers together.
 use Prim.Native.Nat.{ℕ, ◌+◌, ◌≤◌}
 use native.Mathlib.Omega.{arith}
@@ -7,7 +8,6 @@ use lib.Ieee.{Float, le}
 use lib.ListN.{length, get_or}
 use Rattle.f32_laws.specs.Numbers.{larger}
 use Rattle.f32_laws.proofs.Tests.{both}
-use Rattle.float.specs.declared.PlaceAnswer.{PlaceAnswer}
 use Rattle.float.specs.declared.Segment.{Segment}
 use Rattle.float.specs.declared.fit.Ask.{Ask}
 use Rattle.float.specs.declared.search.Reach.{Reach}
@@ -20,6 +20,8 @@ use Rattle.float.specs.Place.{Call, cleaned, ask_of, spot_of, place}
 use Rattle.demands.proofs.Turns.{Ordered, Keeps, search_has}
 use Rattle.demands.proofs.First.{first_le}
 use Rattle.demands.proofs.Ways.{place_ways}
+use Rattle.float.specs.declared.Refusal.{Refusal}
+use Rattle.float.specs.declared.Position.{Position}
 
 module _ (l : List Segment) (a : Ask) where
   abbrev Good : State → Type 0
@@ -52,9 +54,9 @@ module _ (l : List Segment) (a : Ask) where
   search_few s y h = search_has l a Good Few turn_few s y h (omega arith)
 
 -- the steps of an answer are at most 2n
-abbrev pub StepsTo : ℕ → PlaceAnswer → Type 0
-StepsTo n (PlaceAnswer.At x y s) = s ≤ n + n
-StepsTo n (PlaceAnswer.Refused m) = Unit {0}
+abbrev pub StepsTo : ℕ → Result Position Refusal → Type 0
+StepsTo n (Ok s) = s.steps ≤ n + n
+StepsTo n (Err m) = Unit {0}
 
 spot_few : (p : Page) (c : Call) → (spot_of p c).steps ≤ length p.bands + length p.bands
 unfolding spot_of

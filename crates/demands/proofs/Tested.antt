@@ -14,7 +14,7 @@ use borrow.Author.Tests.{ltb-true, ltb-false, lt-ltb, le-ltb, eq-eqb, ne_eqb}
 use Rattle.f32_laws.specs.Numbers.{zero+}
 use Rattle.f32_laws.proofs.Tests.{both}
 use Rattle.float.specs.Numbers.{most, least, plus_zero, finite, within, Given, size, offset, value, allowed, all_finite, all_allowed}
-use Rattle.demands.specs.Runs.{Some}
+use Rattle.demands.specs.Runs.{Any}
 use Rattle.demands.specs.Rows.{NotFinite, Outside}
 
 -- ---- a test that fails exactly where X holds
@@ -122,7 +122,7 @@ finite_one : (g : Given) → Fails (NotFinite g) (finite (value (plus g)))
 finite_one (size x) = finite_number x
 finite_one (offset x) = finite_number x
 
-pub finite_all : (gs : List Given) → Fails (Some NotFinite gs) (all_finite (map plus gs))
+pub finite_all : (gs : List Given) → Fails (Any NotFinite gs) (all_finite (map plus gs))
 unfolding all_finite
 finite_all [] = never
 finite_all (g ∷ gs) = and_also (finite_one g) (finite_all gs)
@@ -184,7 +184,7 @@ inside_one (offset (inf true)) t = absurd t
 inside_one (offset (inf false)) t = absurd t
 inside_one (offset (fin s m e)) t = inside_from true 1 (pos 16) s m e tt (not_under s m e)
 
-pub inside_all : (gs : List Given) → T (all_finite (map plus gs)) → Fails (Some Outside gs) (all_allowed (map plus gs))
+pub inside_all : (gs : List Given) → T (all_finite (map plus gs)) → Fails (Any Outside gs) (all_allowed (map plus gs))
 unfolding all_finite all_allowed
 inside_all [] t = never
 inside_all (g ∷ gs) t = and_also (inside_one g (and_l (finite (value (plus g))) (all_finite (map plus gs)) t)) (inside_all gs (and_r (finite (value (plus g))) (all_finite (map plus gs)) t))

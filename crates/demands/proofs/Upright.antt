@@ -1,3 +1,4 @@
+use Rattle.std.specs.Prelude.{Some}
 -- No height that a page keeps is a minus zero: min_y is handed in without one, and the larger of two and a sum make none. So a kept height is told by its key.
 use mathlib.Core.Path.{◌≡◌, refl, sym, ◌∙◌}
 use Prim.Native.Nat.{ℕ, suc}
@@ -14,7 +15,6 @@ use Rattle.f32_laws.proofs.Tests.{both}
 use Rattle.f32_laws.proofs.Keys.{num, zero_fin, eq→key, key→eq, zero_key}
 use Rattle.f32_laws.proofs.Magnitude.{bias_pos}
 use Rattle.f32_laws.proofs.Plain.{Plain, plain_zero, plain_larger, plain_same, plain_add}
-use Rattle.float.specs.declared.Bottom.{Bottom}
 use Rattle.float.specs.declared.FloatDirection.{FloatDirection}
 use Rattle.float.specs.declared.Segment.{Segment}
 use Rattle.float.specs.declared.fit.Ask.{Ask}
@@ -160,7 +160,7 @@ module _ (p : Page) (v : Upright p) where
   counted_upright : (a : Ask) (i y : Float) → F32 a.height → Plus y → Upright (counted p a i y)
   counted_upright a i y f w = record {
     bands = v.bands;
-    ceiling = lower_is Plus larger_plus p.ceiling (Bottom.At y) v.ceiling w;
+    ceiling = lower_is Plus larger_plus p.ceiling (Some y) v.ceiling w;
     bottom = counted_is Plus larger_plus p a i y v.bottom (plain_add a.height w f);
   }
 

@@ -1,3 +1,4 @@
+use Rattle.std.specs.Prelude.{Result, Ok, Err, ⊤}
 -- The ways of a placement, on pages: refused, flat, or high; and of setting the width.
 use mathlib.Core.Bool.{◌&&◌}
 use lib.Dec.{T, ltb, leb}
@@ -5,20 +6,19 @@ use lib.Ieee.{Float, eq}
 use lib.ListN.{length}
 use Rattle.f32_laws.specs.Numbers.{zero+}
 use Rattle.f32_laws.proofs.Tests.{both}
-use Rattle.float.specs.declared.Done.{Done}
 use Rattle.float.specs.declared.Refusal.{Refusal}
 use Rattle.float.specs.declared.fit.Ask.{Ask}
 use Rattle.float.specs.declared.search.Spot.{Spot}
 use Rattle.float.specs.Numbers.{plus_zero, all_finite, all_allowed}
 use Rattle.float.specs.Page.{Page, max_bands, max_boxes}
-use Rattle.float.specs.Place.{Call, cleaned, numbers, Result, Made, make, recorded, refuse, accept, near, high, flat, put, ask_of, spot_of, admitted, checked, place, width_check, with_width, if_done, set_width}
+use Rattle.float.specs.Place.{Call, cleaned, numbers, PlaceResult, Made, make, recorded, refuse, accept, near, high, flat, put, ask_of, spot_of, admitted, checked, place, width_check, with_width, if_done, set_width}
 use Rattle.demands.proofs.Input.{check_both}
 
 -- the numbers of an accepted call are allowed, and at y its box is near enough
 abbrev pub Nears : Page → Call → Float → Type 0
 Nears p c y = T (all_finite (numbers c)) × T (all_allowed (numbers c)) × T (near (ask_of p c) (spot_of p c).inset y)
 
-module _ (P : Result → Type 0) (p : Page) (c : Call) where
+module _ (P : PlaceResult → Type 0) (p : Page) (c : Call) where
   abbrev ask : Ask
   ask = ask_of p (cleaned c)
 
@@ -46,6 +46,6 @@ pub width_ways : (P : Page → Type 0) (p : Page) (w : Float) → P p → P (wit
 unfolding set_width
 width_ways P p w old new = go (width_check p.boxes (plus_zero w))
   where
-    go : (d : Done) → P (if_done d (with_width p (plus_zero w)) p)
-    go Done.Accepted = new
-    go (Done.Refused n) = old
+    go : (d : Result ⊤ Refusal) → P (if_done d (with_width p (plus_zero w)) p)
+    go (Ok _) = new
+    go (Err n) = old

@@ -1,3 +1,4 @@
+use Rattle.std.specs.Prelude.{Option, Some, Result, Ok, Err, ⊤}
 -- The page's invariant from the fresh page on, for any f32: placing and setting the width keep it, and no inset falls.
 use mathlib.Core.Path.{◌≡◌, refl, sym, ap, ◌∙◌, subst}
 use mathlib.Core.Logic.{◌⊎◌, inl, inr}
@@ -14,10 +15,7 @@ use lib.Seq.{get_or-append_seam}
 use Rattle.f32_laws.specs.Numbers.{zero+}
 use Rattle.f32_laws.proofs.Tests.{both}
 use Rattle.f32_laws.proofs.Keys.{le→key, lt→key, key→le}
-use Rattle.float.specs.declared.Bottom.{Bottom}
-use Rattle.float.specs.declared.Done.{Done}
 use Rattle.float.specs.declared.FloatDirection.{FloatDirection}
-use Rattle.float.specs.declared.PlaceAnswer.{PlaceAnswer}
 use Rattle.float.specs.declared.PlacedFloatedBox.{PlacedFloatedBox}
 use Rattle.float.specs.declared.Refusal.{Refusal}
 use Rattle.float.specs.declared.Segment.{Segment}
@@ -27,7 +25,7 @@ use Rattle.float.specs.Numbers.{plus_zero, in_reach, size, all_allowed}
 use Rattle.float.specs.Refuse.{side_of}
 use Rattle.float.specs.Bands.{on_side, other, none, first_below}
 use Rattle.float.specs.Page.{Page, page_of, fresh_context, fresh, no_box, max_bands, max_boxes}
-use Rattle.float.specs.Place.{Call, cleaned, numbers, Result, lowest, first_allowed, ask_of, spot_of, Made, make, recorded, box_of, counted, x_of, refuse, near, high, flat, put, admitted, checked, place, width_check, with_width, if_done, set_width}
+use Rattle.float.specs.Place.{Call, cleaned, numbers, PlaceResult, lowest, first_allowed, ask_of, spot_of, Made, make, recorded, box_of, counted, x_of, refuse, near, high, flat, put, admitted, checked, place, width_check, with_width, if_done, set_width}
 use Rattle.demands.specs.Runs.{Each, Pairs, Accepted, box_in, last_inset, noted, box, handed, F32, containing_lead, x_from, LowEnough}
 use Rattle.demands.proofs.Laws.{k, Val, Ins, on_either, ins_zero, ins_val, sum_val, sum_ins, sum_grows}
 use Rattle.demands.proofs.Chain.{Chain, chain_at, chain_under, chain_mark, length_mark, mark_end}
@@ -40,10 +38,11 @@ use Rattle.demands.proofs.Make.{MadeOk, make_ok}
 use Rattle.demands.proofs.Input.{Known, known, check_both, plus_fits, cleaned_fits, asked, bottom_on, BottomIs, AtMost, lower_is, counted_is, lowest_is, larger_val, lower_keeps, lower_takes, lowest_over, low_enough}
 use Rattle.demands.proofs.Lists.{each_append, pairs_append, each_map}
 use Rattle.demands.proofs.Ways.{width_ways}
+use Rattle.float.specs.declared.Position.{Position}
 
 -- ---- the invariant
 -- an accepted y is at or above the ceiling
-pub record Under (b : Bottom) (a : Accepted) : Type 0 where
+pub record Under (b : Option Float) (a : Accepted) : Type 0 where
   pub val : Val a.y
   pub under : AtMost a.y b
 
@@ -93,12 +92,12 @@ unfolding fresh page_of fresh_context
 fresh_sunk i h u = absurd (not-suc-le-zero u)
 
 -- the y of an answer is low enough
-abbrev pub Lies : Page → Call → PlaceAnswer → Type 0
-Lies p c (PlaceAnswer.At x y s) = LowEnough p c y
-Lies p c (PlaceAnswer.Refused m) = Unit {0}
+abbrev pub Lies : Page → Call → Result Position Refusal → Type 0
+Lies p c (Ok s) = LowEnough p c s.y
+Lies p c (Err m) = Unit {0}
 
 -- what one placement does to a page and its log
-pub record Step (p : Page) (g : List Accepted) (c : Call) (r : Result) : Type 0 where
+pub record Step (p : Page) (g : List Accepted) (c : Call) (r : PlaceResult) : Type 0 where
   pub inv : Inv r.page (noted r.answer c r.page g)
   pub grows : Grows p.bands r.page.bands
   pub lies : Lies p c r.answer
@@ -158,7 +157,7 @@ module _ (p : Page) (g : List Accepted) (c : Call) (a : Ask) (i x y : Float) (v 
     leads = each_append (λ d. T (le (containing_lead d) d.inset)) g e v.leads u;
     answers = each_append (λ d. d.x ≡ x_from p.width d) g e v.answers r;
     rises = pairs_append (λ d d'. T (le d.y d'.y)) g e v.rises (each_map (Under p.ceiling) (λ d. T (le d.y e.y)) g (λ d u. key→le u.val.num ew.num (omega (arith, ap k m, h d.y u.under))) v.tops);
-    ceiling = lower_is Val larger_val p.ceiling (Bottom.At y) v.ceiling w;
+    ceiling = lower_is Val larger_val p.ceiling (Some y) v.ceiling w;
   }
     where
       ew : Val e.y
@@ -308,7 +307,7 @@ place_ok p g c v f =
     (λ n o. refuse_ok p g (cleaned c) n v)
 
 -- ---- the width: set on a page with no box, or refused
-pub width_both : (P : Done → Type 0) (bs : List PlacedFloatedBox) (w : Float) → F32 w → (Ins w → T (all_allowed (size w ∷ [])) → length bs ≡ 0 → P Done.Accepted) → ((n : Refusal) → P (Done.Refused n)) → P (width_check bs w)
+pub width_both : (P : Result ⊤ Refusal → Type 0) (bs : List PlacedFloatedBox) (w : Float) → F32 w → (Ins w → T (all_allowed (size w ∷ [])) → length bs ≡ 0 → P (Ok tt)) → ((n : Refusal) → P (Err n)) → P (width_check bs w)
 unfolding width_check
 width_both P bs w f p q =
     check_both P true (size w ∷ [])

@@ -20,7 +20,7 @@ use Rattle.f32_laws.proofs.Is64.{of64}
 use Rattle.float.specs.Numbers.{most, least, plus_zero, within, Given, size, offset, value, allowed, all_allowed}
 use Rattle.float.specs.Refuse.{side_of}
 use Rattle.float.specs.Page.{Page, page_of, fresh_context, fresh, max_boxes}
-use Rattle.float.specs.Place.{Call, cleaned, numbers, Result, lowest, ask_of, spot_of, admitted, checked, place, with_width, if_done, set_width}
+use Rattle.float.specs.Place.{Call, cleaned, numbers, PlaceResult, lowest, ask_of, spot_of, admitted, checked, place, with_width, if_done, set_width}
 use Rattle.demands.specs.Runs.{Each, Accepted, box_in, noted, box, handed, F32, Whole64}
 use Rattle.demands.proofs.Laws.{k, B, Ins, on_either}
 use Rattle.demands.proofs.Input.{most_num, least_num, Known, known, check_both, plus_fits, cleaned_fits, asked, BottomIs, lowest_is}
@@ -65,7 +65,7 @@ module _ (p : Page) (l : List Accepted) (c : Call) (v : Inv64 p l) (n : Each Kno
   admitted64 : Step p l c (admitted p c) → Inv64 (admitted p c).page (noted (admitted p c).answer c (admitted p c).page l)
   unfolding admitted
   admitted64 =
-      both (λ (r : Result). Step p l c r → Inv64 r.page (noted r.answer c r.page l)) (ltb (length p.boxes) max_boxes)
+      both (λ (r : PlaceResult). Step p l c r → Inv64 r.page (noted r.answer c r.page l)) (ltb (length p.boxes) max_boxes)
       (λ w. put64 p l c v ask64 (lowest p c) (spot_of p c) (spot_ok p l c v.inv n (count64 p.bands v.inv.chain v.bands) ask64.cb_lead (lowest_is Q larger64 p c q.1.1.0 v.ceiling v.bottom)) (spot_leads p l c v.inv n))
       (λ w st. v)
 
@@ -77,7 +77,7 @@ place64 p l c v f s = go (place_ok p l c v.inv f)
     d = cleaned c
 
     go : Step p l d (place p c) → Inv64 (place p c).page (noted (place p c).answer d (place p c).page l)
-    go = check_both (λ (r : Result). Step p l d r → Inv64 r.page (noted r.answer d r.page l)) (ltb c.side 2 && ltb c.clear 4) (numbers d)
+    go = check_both (λ (r : PlaceResult). Step p l d r → Inv64 r.page (noted r.answer d r.page l)) (ltb c.side 2 && ltb c.clear 4) (numbers d)
         (λ t u. let n = known (numbers d) (cleaned_fits c f) t u in admitted64 p l d v n (known64 (numbers d) (cleaned_fits c f) s u n))
         (λ n o st. v)
 

@@ -1,18 +1,14 @@
 -- Any sequence of calls from a fresh page, the page after it and the placements that it had accepted; and the words of the promises. Definitions only.
-use Rattle.std.specs.Prelude.{◌⊎◌, ℕ, suc, ◌-◌, ◌^◌, ◌≤◌, ◌<◌, ◌≡◌, Bool, true, false, ◌&&◌, ◌||◌, List, [], ◌∷◌, ◌++◌, T, ℤ, nat_abs, ◌+ℤ◌, Float, length, get_or}
+use Rattle.std.specs.Prelude.{◌⊎◌, ℕ, suc, ◌-◌, ◌^◌, ◌≤◌, ◌<◌, ◌≡◌, Bool, true, false, ◌&&◌, ◌||◌, List, [], ◌∷◌, ◌++◌, T, ℤ, nat_abs, ◌+ℤ◌, Float, length, get_or, Option, Some, None, Result, Ok, Err}
 use Rattle.std.proofs.Math.Option.{some}
 use Rattle.std.specs.Float.{binary32}
 use Rattle.std.specs.Float.Ieee.{fits as fits_in, add, sub, lt, le, eq}
 use Rattle.std.proofs.Math.ListN.{get_elem?}
 use Rattle.f32_laws.specs.Numbers.{larger, zero+, is64}
 use Rattle.f32_laws.specs.Sixty.{in64}
-use Rattle.float.specs.declared.BandNumber.{BandNumber}
-use Rattle.float.specs.declared.Bottom.{Bottom}
-use Rattle.float.specs.declared.BoxNumber.{BoxNumber}
 use Rattle.float.specs.declared.ContentSlot.{ContentSlot}
 use Rattle.float.specs.declared.FloatContext.{FloatContext}
 use Rattle.float.specs.declared.FloatDirection.{FloatDirection}
-use Rattle.float.specs.declared.PlaceAnswer.{PlaceAnswer}
 use Rattle.float.specs.declared.PlacedFloatedBox.{PlacedFloatedBox}
 use Rattle.float.specs.declared.Segment.{Segment}
 use Rattle.float.specs.declared.fit.Ask.{Ask}
@@ -25,6 +21,8 @@ use Rattle.float.specs.Clear.{raise_to, cleared}
 use Rattle.float.specs.Fit.{placed_at}
 use Rattle.float.specs.Place.{Call, cleaned, walked, started_at, make, place_of, width_of}
 use Rattle.float.specs.Slot.{ContentCall, BfcCall}
+use Rattle.float.specs.declared.Refusal.{Refusal}
+use Rattle.float.specs.declared.Position.{Position}
 
 -- ---- lists
 
@@ -39,9 +37,9 @@ Pairs P [] = Unit {0}
 Pairs P (x ∷ xs) = Each (P x) xs × Pairs P xs
 
 -- P holds of one at least
-abbrev pub Some : {A : Type 0} → (A → Type 0) → List A → Type 0
-Some P [] = ⊥
-Some P (x ∷ xs) = P x ⊎ Some P xs
+abbrev pub Any : {A : Type 0} → (A → Type 0) → List A → Type 0
+Any P [] = ⊥
+Any P (x ∷ xs) = P x ⊎ Any P xs
 
 -- ---- runs
 
@@ -72,9 +70,9 @@ abbrev pub last_inset : Page → Float
 last_inset p = (get_or p.boxes (length p.boxes - 1) no_box).x_inset
 
 -- an accepted call is noted after the earlier ones
-abbrev pub noted : PlaceAnswer → Call → Page → List Accepted → List Accepted
-noted (PlaceAnswer.At x y k) c p l = l ++ record { call = c; x = x; y = y; inset = last_inset p } ∷ []
-noted (PlaceAnswer.Refused n) c p l = l
+abbrev pub noted : Result Position Refusal → Call → Page → List Accepted → List Accepted
+noted (Ok s) c p l = l ++ record { call = c; x = s.x; y = s.y; inset = last_inset p } ∷ []
+noted (Err n) c p l = l
 
 -- a fresh page, one call, and one after the other
 abbrev pub started : Run
@@ -186,9 +184,9 @@ abbrev pub far_inset : Accepted → Float
 far_inset a = add binary32 a.inset a.call.width
 
 -- y is at or below a kept height, if there is one
-abbrev pub AtOrBelow : Bottom → Float → Type 0
-AtOrBelow Bottom.None y = Unit {0}
-AtOrBelow (Bottom.At x) y = T (le x y)
+abbrev pub AtOrBelow : Option Float → Float → Type 0
+AtOrBelow None y = Unit {0}
+AtOrBelow (Some x) y = T (le x y)
 
 -- y is at or below min_y, the page's ceiling and the bottoms that the call clears
 abbrev pub LowEnough : Page → Call → Float → Type 0
@@ -219,9 +217,9 @@ overlap a b = share_height a b && lt a.x (right_edge b) && lt b.x (right_edge a)
 -- ---- the box that a band names (1/14)
 
 -- there is a number
-abbrev pub present : BoxNumber → Bool
-present BoxNumber.None = false
-present (BoxNumber.At k) = true
+abbrev pub present : Option ℕ → Bool
+present None = false
+present (Some k) = true
 
 -- on the side s the band b names the box k of those accepted, counted from 0: it is of that side, and the band's inset is its inset plus width, rounded
 pub record Names (g : List Accepted) (s : FloatDirection) (b : Segment) (k : ℕ) : Type 0 where
@@ -240,14 +238,14 @@ StandsAt a h = T (le a.y h) × T (lt h (bottom a))
 -- ---- how deep the page is (3/14)
 
 -- x is at or above a kept height; where none is kept nothing is
-abbrev pub AtOrAbove : Float → Bottom → Type 0
-AtOrAbove x Bottom.None = ⊥
-AtOrAbove x (Bottom.At y) = T (le x y)
+abbrev pub AtOrAbove : Float → Option Float → Type 0
+AtOrAbove x None = ⊥
+AtOrAbove x (Some y) = T (le x y)
 
 -- d is the largest bottom of these placements: one of them has it and none has a larger one; it is missing exactly where there is no placement
-abbrev pub Largest : List Accepted → Bottom → Type 0
-Largest g Bottom.None = g ≡ []
-Largest g (Bottom.At d) = Some (λ a. bottom a ≡ d) g × Each (λ a. T (le (bottom a) d)) g
+abbrev pub Largest : List Accepted → Option Float → Type 0
+Largest g None = g ≡ []
+Largest g (Some d) = Any (λ a. bottom a ≡ d) g × Each (λ a. T (le (bottom a) d)) g
 
 -- ---- a call without its clear (2/14): none, at min_y raised to the cleared bottoms
 
@@ -273,7 +271,7 @@ pub record Raises (p : Page) (clear : ℕ) (y : Float) : Type 0 where
 
 -- at the height h, with insets 0, no clear and after none
 abbrev pub content_at : Float → ContentCall
-content_at h = record { min_y = h; left = zero+; right = zero+; clear = 0; after = BandNumber.None }
+content_at h = record { min_y = h; left = zero+; right = zero+; clear = 0; after = None }
 
 -- the slot lies at the height y, between the insets that stand there
 pub record Between (p : Page) (y : Float) (s : ContentSlot) : Type 0 where
@@ -299,9 +297,9 @@ pub data Joins (s : FloatDirection) (l : List Segment) : Float → Type 0 where
 
 -- ---- a page whose every number is whole 64ths; a band's start is the end above it
 
-abbrev pub Bottom64 : Bottom → Type 0
-Bottom64 Bottom.None = Unit {0}
-Bottom64 (Bottom.At x) = T (is64 x)
+abbrev pub Bottom64 : Option Float → Type 0
+Bottom64 None = Unit {0}
+Bottom64 (Some x) = T (is64 x)
 
 pub record Page64 (p : Page) : Type 0 where
   pub width : T (is64 p.width)

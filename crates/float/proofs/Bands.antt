@@ -1,4 +1,4 @@
--- Laws of the first band below a height, of the first n bands of an array, and of what the machine holds: each by going down the list.
+-- Laws of the first band below a height: each by going down the list.
 use Rattle.std.proofs.Common.{◌≡◌, ℕ, zero, suc, ◌+◌, ◌<◌, ◌≤◌, min, true, false, List, [], ◌∷◌, length, get_or, take, sym, refl, ap, ◌∙◌, suc-le-suc, zero-le, le_of_suc-le-suc, not-suc-le-zero, add-one, arith, length-take-le, get_or-take}
 use native.Mathlib.Decide.{dec_le}
 use native.Mathlib.Nat.{min-eq_left, min-eq_right}
@@ -43,20 +43,3 @@ min_cases P c m f g = go (dec_le c m)
 -- a first number past the last band asks for no more than the number of bands
 pub clamped : (l : List Segment) (f : ℕ) (y : Float) → first_below l (min f (length l)) y ≡ first_below l f y
 clamped l f y = min_cases (λ k. first_below l k y ≡ first_below l f y) f (length l) (λ h. refl) (λ h. past y l (length l) (omega arith) ∙ sym (past y l f h))
-
--- the same of the first n bands of an array
-module _ (bs : List Segment) (n : ℕ) (y : Float) (h : n ≤ length bs) where
-  pub found_in : (i : ℕ) → i < n → lt y (get_or bs i none).end ≡ true → first_below (take n bs) i y ≡ i
-  found_in i l t =
-      let e = length-take-le n bs h in
-      found y (take n bs) i (omega arith) (rw get_or-take t)
-
-  pub next_in : (i : ℕ) → i < n → lt y (get_or bs i none).end ≡ false → first_below (take n bs) i y ≡ first_below (take n bs) (i + 1) y
-  next_in i l t =
-      let e = length-take-le n bs h in
-      rw add-one (next y (take n bs) i (omega arith) (rw get_or-take t))
-
-  pub past_in : (i : ℕ) → n ≤ i → first_below (take n bs) i y ≡ n
-  past_in i l =
-      let e = length-take-le n bs h in
-      past y (take n bs) i (omega arith) ∙ e

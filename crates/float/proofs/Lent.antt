@@ -1,7 +1,7 @@
 -- A call of `place_in` on a page that lies in a caller's local: for a walk by hand of a function that makes one.
 -- `lent` is the call, over any context: the page's cell is lent for a lifetime that is made for the call; the call returns, the lifetime ends, and the cell comes back with the page that `place_in`'s contract says, beside the answer.
 -- Assumes nothing.
-use Rattle.std.proofs.Common.{◌≡◌, ℕ, List, [], ◌∷◌, refl, w8, MutBor}
+use Rattle.std.proofs.Common.{◌≡◌, ℕ, List, [], ◌∷◌, refl, w8, MutBor, Result}
 use seplogic.Ra.Ura.{Ura}
 use base.Fraction.{full_share}
 use lib.Ieee.{binary32}
@@ -36,12 +36,15 @@ use denote.Triple.Spec.{triple_of}
 use denote.Triple.Clauses.{Ended, Lasts, ensured, lasts}
 use borrow.Table.OneValue.{part_in, part_out}
 use Rattle.float.specs.declared.FloatContext.{FloatContext}
-use Rattle.float.specs.declared.PlaceAnswer.{PlaceAnswer}
 use Rattle.float.specs.Place.{Call, place_of}
 use Rattle.float.specs.contracts.FloatContext as T
-use Rattle.float.specs.contracts.PlaceAnswer as E
+use Rattle.float.specs.contracts.Position as S
+use Rattle.float.specs.contracts.Refusal as N
+use Rattle.std.specs.contracts.result.Result as R
 use Rattle.float.specs.contracts.FloatContext.place_in as place_in_is
 use Rattle.float.specs.contracts.FloatContext.place_in.Key.{name as #place_in}
+use Rattle.float.specs.declared.Refusal.{Refusal}
+use Rattle.float.specs.declared.Position.{Position}
 
 -- the numbers of a call: width, height, min_y, left, right, side, clear
 abbrev pub numbers : List RattleType
@@ -61,7 +64,7 @@ abbrev pub AreNumbers : Denots numbers → Type 0
 AreNumbers ns = Are numbers (Ises numbers) ns (valss numbers spells ns)
 
 -- the answer a and the page p are those of the call on the page h
-abbrev pub Says : PlaceAnswer → FloatContext → FloatContext → Denots numbers → Type 0
+abbrev pub Says : Result Position Refusal → FloatContext → FloatContext → Denots numbers → Type 0
 Says a p h ns = record { answer = a; page = p } ≡ place_of h (asked ns)
 
 abbrev pub τ : Ty
@@ -103,14 +106,14 @@ module _ {M : Type 1} {𝓤 : Ura M} (𝓛 : Logic 𝓤) (at_mem : Memory → SP
   pub lent : {K : Type 0} {Γ : List (Item 𝓤)} {C : Calls 𝓤 H} {Λ : Loops 𝓤 H} {En : Env 𝓤 H} {q : After 𝓤 H} {xs : List Operand} {d : Place} {rest : Body}
       → K → FmC 𝓤 H 𝓛.laws C → Triple 𝓤 (C #place_in) (PlaceIn 𝓛 at_mem run) → AreNumbers ns → (v : Val)
       → ((α : ℕ) (γ : GName) → Opds K 𝓛 (raw ((PlaceIn 𝓛 at_mem run).pre (to α γ)) ∷ ‵ (flent (α ∷ []) (Held (mem T.the_row) b 0 γ)) ∷ Γ) En xs (vptr b 0 ∷ flat numbers vs))
-      → ((a : PlaceAnswer) (p : FloatContext) (y u : Val) → Says a p h ns → Seq K 𝓛 (‵ (fat full_share τ b 0 u) ∷ ‵ ((T.the_row).own_val p (u ∷ [])) ∷ ‵ ((E.the_row).own_val a (y ∷ [])) ∷ Γ) (lands C Λ En d y rest q))
+      → ((a : Result Position Refusal) (p : FloatContext) (y u : Val) → Says a p h ns → Seq K 𝓛 (‵ (fat full_share τ b 0 u) ∷ ‵ ((T.the_row).own_val p (u ∷ [])) ∷ ‵ ((R.the_row S.the_row N.the_row).own_val a (y ∷ [])) ∷ Γ) (lands C Λ En d y rest q))
       → Seq K 𝓛 (‵ (fat full_share τ b 0 v) ∷ ‵ ((T.the_row).own_val h (v ∷ [])) ∷ Γ) (runs C Λ En (seq (call #place_in xs d) rest) q)
   lent t fm known are v o k =
       use2 𝓛 (‵ ((mem T.the_row).own_at h b 0)) (part_in 𝓛 T.the_row refl full_share h b 0 v) $ lft_new t tt (λ α. move t (1 ∷ []) $
       use1 𝓛 (later (some (λ (γ : GName). ‵ ((MutRef (named 0) (α ∷ []) T.the_row).own_val (ref γ) (vptr b 0 ∷ [])) ⊛ ‵ (flent (α ∷ []) (Held (mem T.the_row) b 0 γ))))) (lends_ref 𝓛 T.the_row (named 0) (α ∷ []) h b 0) $ await t tt $ pick t (λ γ. split t $
       -- [the reference; the lender's part; the token; …]
       move t (2 ∷ 0 ∷ []) $ use2 𝓛 (raw ((PlaceIn 𝓛 at_mem run).pre (to α γ))) (goes are α γ) $ calls_at t fm (PlaceIn 𝓛 at_mem run) known (to α γ) (o α γ) (λ y.
-      use1 𝓛 (later (some (λ (a : PlaceAnswer). ((‵ (flft (α ∷ []) full_share) ⊛ ‵ ftrue) ⊛ ‵ ((E.the_row).own_val a (y ∷ []))) ⊛ raw (ensured 𝓛 place_in_is.ended (place_in_is.clauses 𝓛 at_mem run) (α ∷ [], tt) (ref γ, ns) tt a)))) (id⊢ 𝓤 _) $ await t tt $ pick t (λ a. split t $ move t (1 ∷ []) $
+      use1 𝓛 (later (some (λ (a : Result Position Refusal). ((‵ (flft (α ∷ []) full_share) ⊛ ‵ ftrue) ⊛ ‵ ((R.the_row S.the_row N.the_row).own_val a (y ∷ []))) ⊛ raw (ensured 𝓛 place_in_is.ended (place_in_is.clauses 𝓛 at_mem run) (α ∷ [], tt) (ref γ, ns) tt a)))) (id⊢ 𝓤 _) $ await t tt $ pick t (λ a. split t $ move t (1 ∷ []) $
       use1 𝓛 (some (λ (ws : Lasts place_in_is.ended (α ∷ [], tt) (ref γ, ns)). ‵ (lasts place_in_is.ended (α ∷ [], tt) (ref γ, ns) ws) ⊛ raw (fact 𝓤 (Says a ws.0 h ns)))) (id⊢ 𝓤 _) $ pick t (λ ws. split t $ move t (1 ∷ []) $ heard t (Says a ws.0 h ns) (λ e. fsplit t $
       -- [what the reference leaves: its last page and its borrow; nothing; the token and the answer; the lender's part; …]
       fsplit t $ move t (1 ∷ []) $ drop t $

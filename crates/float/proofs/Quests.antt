@@ -1,12 +1,10 @@
 -- What a holder that looks among its own bands answers is what the page answers: a band found below the raised height proves that floats are active, so the search lands where the definition's does.
-use Rattle.std.proofs.Common.{◌≡◌, ℕ, zero, suc, ◌-◌, ◌<◌, ◌≤◌, min, Bool, true, false, cond, ◌&&◌, ltb, List, [], ◌∷◌, length, get_or, take, sym, refl, ap, ◌∙◌, subst, ap₂, true≢false, suc-le-suc, zero-le, le_of_suc-le-suc, not-suc-le-zero, arith, length-take-le, get_or-take, ltb-false, ltb-true, le-ltb, lt-ltb}
+use Rattle.std.proofs.Common.{◌≡◌, ℕ, zero, suc, ◌-◌, ◌<◌, ◌≤◌, min, Bool, true, false, cond, ◌&&◌, ltb, List, [], ◌∷◌, length, get_or, take, sym, refl, ap, ◌∙◌, subst, ap₂, true≢false, suc-le-suc, zero-le, le_of_suc-le-suc, not-suc-le-zero, arith, length-take-le, get_or-take, ltb-false, ltb-true, le-ltb, lt-ltb, Option, Result, Ok, Err}
+use Rattle.std.specs.Prelude.{⊤}
+use Rattle.std.specs.Result.{result_unwrap_or}
 use lib.Ieee.{Float, binary32, add, lt}
-use Rattle.float.specs.declared.BandNumber.{BandNumber}
-use Rattle.float.specs.declared.BfcAnswer.{BfcAnswer}
 use Rattle.float.specs.declared.BfcSlot.{BfcSlot}
-use Rattle.float.specs.declared.Bottom.{Bottom}
 use Rattle.float.specs.declared.Clear.{Clear}
-use Rattle.float.specs.declared.ContentAnswer.{ContentAnswer}
 use Rattle.float.specs.declared.ContentSlot.{ContentSlot}
 use Rattle.float.specs.declared.Direction.{Direction}
 use Rattle.float.specs.declared.FloatContext.{FloatContext}
@@ -15,7 +13,6 @@ use Rattle.float.specs.declared.PlacedFloatedBox.{PlacedFloatedBox}
 use Rattle.float.specs.declared.Refusal.{Refusal}
 use Rattle.float.specs.declared.Segment.{Segment}
 use Rattle.float.specs.declared.ask.Quest.{Quest}
-use Rattle.float.specs.declared.refuse.Check.{Check}
 use Rattle.float.specs.declared.bfc.BfcInsets.{BfcInsets}
 use Rattle.float.specs.declared.slot.Sought.{Sought}
 use Rattle.float.specs.Numbers.{size, offset, plus_zero}
@@ -24,8 +21,8 @@ use Rattle.float.specs.Bands.{none, first_below, last_end}
 use Rattle.float.specs.Page.{Page, page_of, max_bands}
 use Rattle.float.specs.Head.{page_with, head_of}
 use Rattle.float.specs.Clear.{raise_to, cleared}
-use Rattle.float.specs.Slot.{active, from, landed, seek, ContentCall, content_cleaned, content_check, content_slot, content_asked, content, BfcCall, bfc_cleaned, bfc_check, bfc_insets, bfc_slot, bfc_asked, bfc}
-use Rattle.float.specs.Quest.{quest_of, content_quest, bfc_quest, Found, landing}
+use Rattle.float.specs.Slot.{active, from, landed, seek, ContentCall, content_cleaned, content_check, content_slot, content, BfcCall, bfc_cleaned, bfc_check, bfc_insets, bfc_slot, bfc}
+use Rattle.float.specs.Quest.{quest_of, content_quest, bfc_quest, Asks, Found, landing}
 use Rattle.float.proofs.Bands.{below_length, clamped}
 use Rattle.float.proofs.Front.{take_min}
 use Rattle.float.proofs.Make.{last_end_at}
@@ -98,21 +95,24 @@ module _ (h : Head) (bs : List Segment) (xs : List PlacedFloatedBox) where
     live_length : length (page_in h bs xs).bands ≡ min h.count 96
     live_length = ap length live ∙ length-take-le (min h.count 96) bs (omega arith)
 
-    module _ (t : Check) (c : Clear) (after : BandNumber) (y : Float) {i k : ℕ} where
-      seeks : Found bs (quest_of h t c after y) i k → landing (quest_of h t c after y) i k ≡ seek (page_in h bs xs) c after y
+    module _ (c : Clear) (after : Option ℕ) (y : Float) {i k : ℕ} where
+      seeks : Found bs (quest_of h c after y) i k → landing (quest_of h c after y) i k ≡ seek (page_in h bs xs) c after y
       unfolding seek
       seeks f =
           let p = page_in h bs xs in
           let n = min h.count 96 in
           let at : i ≡ first_below p.bands (from after) (raise_to y (cleared p c)) =
           f.at
-          ∙ ap (λ (b : Bottom). first_below (take n bs) (min (from after) n) (raise_to y b)) (cleared_alike c)
+          ∙ ap (λ (b : Option Float). first_below (take n bs) (min (from after) n) (raise_to y b)) (cleared_alike c)
           ∙ ap (λ (l : List Segment). first_below l (min (from after) n) (raise_to y (cleared p c))) (sym live)
           ∙ ap (λ (m : ℕ). first_below p.bands (min (from after) m) (raise_to y (cleared p c))) (sym live_length)
           ∙ clamped p.bands (from after) (raise_to y (cleared p c)) in
           let lower : i ≡ length p.bands → k ≡ first_below p.bands 0 y = λ e. f.lower (e ∙ live_length) ∙ ap (λ (l : List Segment). first_below l 0 y) (sym live) in
-          ap₂ (λ (m : ℕ) (b : Bottom). cond (ltb i m) (Sought.At i (raise_to y b)) (cond (ltb k m) (Sought.Past (raise_to y b)) (Sought.Quiet y))) (sym live_length) (cleared_alike c)
+          ap₂ (λ (m : ℕ) (b : Option Float). cond (ltb i m) (Sought.At i (raise_to y b)) (cond (ltb k m) (Sought.Past (raise_to y b)) (Sought.Quiet y))) (sym live_length) (cleared_alike c)
           ∙ lands p.bands (from after) y (raise_to y (cleared p c)) (raised_below y (cleared p c)) at lower
+
+      sought : {q : Quest} → quest_of h c after y ≡ q → Found bs q i k → landing q i k ≡ seek (page_in h bs xs) c after y
+      sought {q} e f = ap (λ (q : Quest). landing q i k) (sym e) ∙ seeks (subst (λ (q : Quest). Found bs q i k) (sym e) f)
 
 -- a page is its head with its arrays
 module _ (p : FloatContext) {h : Head} (e : h ≡ head_of p) where
@@ -120,44 +120,57 @@ module _ (p : FloatContext) {h : Head} (e : h ≡ head_of p) where
   unfolding page_of
   page_whole = ap (λ (h : Head). page_in h p.bands p.boxes) e
 
-  pub content_whole : (c : ContentCall) {r : ContentAnswer} → r ≡ content (page_in h p.bands p.boxes) c → r ≡ content (page_of p) c
-  content_whole c f = rw page_whole at f
+  pub content_whole : (c : ContentCall) {r : Result ContentSlot Refusal} → content (page_in h p.bands p.boxes) c ≡ r → r ≡ content (page_of p) c
+  content_whole c f = sym (rw page_whole at f)
 
-  pub bfc_whole : (c : BfcCall) {r : BfcAnswer} → r ≡ bfc (page_in h p.bands p.boxes) c → r ≡ bfc (page_of p) c
-  bfc_whole c f = rw page_whole at f
+  pub bfc_whole : (c : BfcCall) {r : Result BfcSlot Refusal} → bfc (page_in h p.bands p.boxes) c ≡ r → r ≡ bfc (page_of p) c
+  bfc_whole c f = sym (rw page_whole at f)
 
 -- ---- what is looked for
 
 min_again : (a m n : ℕ) → n ≤ m → min (min a m) n ≡ min a n
 min_again a m n h = omega arith
 
-module _ (h : Head) where
-  pub quest_made : (t : Check) (c : Clear) (after : BandNumber) (y : Float) {n m f : ℕ} {b : Bottom} {z : Float} → n ≡ min h.count 96 → m ≡ min (from after) max_bands → f ≡ min m n → b ≡ cleared (page_in h [] []) c → z ≡ raise_to y b → (n ≤ 96) × (f ≤ n) × (record { check = t; n = n; from = f; above = z; y = y } ≡ quest_of h t c after y)
-  quest_made t c after y {n} {m} {f} en em ef eb ez =
-      let e : f ≡ min (from after) (min h.count 96) = ef ∙ rw (em, en) (min_again (from after) 96 (min h.count 96) (omega arith)) in
-      (omega arith, omega arith, cc)
+pub quest_made : (h : Head) (c : Clear) (after : Option ℕ) (y : Float) {n m f : ℕ} {b : Option Float} {z : Float} → n ≡ min h.count 96 → m ≡ min (from after) max_bands → f ≡ min m n → b ≡ cleared (page_in h [] []) c → z ≡ raise_to y b → (n ≤ 96) × (f ≤ n) × (record { n = n; from = f; above = z; y = y } ≡ quest_of h c after y)
+quest_made h c after y {n} {m} {f} en em ef eb ez =
+    let e : f ≡ min (from after) (min h.count 96) = ef ∙ rw (em, en) (min_again (from after) 96 (min h.count 96) (omega arith)) in
+    (omega arith, omega arith, cc)
 
-  pub content_sought_lem : (c : ContentCall) {y l r : Float} {t : Check} {s : Clear} {q : Quest} → y ≡ plus_zero c.min_y → l ≡ plus_zero c.left → r ≡ plus_zero c.right → t ≡ check_of (ltb c.clear 4) (offset y ∷ size l ∷ size r ∷ []) → s ≡ clear_of c.clear → q ≡ quest_of h t s c.after y → q ≡ content_quest h c
-  unfolding content_quest
-  content_sought_lem c ey el er et es eq = cc
+-- ---- what a check lets through, or its refusal
 
-  pub bfc_sought_lem : (c : BfcCall) {y l r ml mr : Float} {t : Check} {s : Clear} {q : Quest} → y ≡ plus_zero c.min_y → l ≡ plus_zero c.left → r ≡ plus_zero c.right → ml ≡ plus_zero c.left_margin → mr ≡ plus_zero c.right_margin → t ≡ check_of (ltb c.direction 2 && ltb c.clear 4) (offset y ∷ size l ∷ size r ∷ offset ml ∷ offset mr ∷ []) → s ≡ clear_of c.clear → q ≡ quest_of h t s c.after y → q ≡ bfc_quest h c
-  unfolding bfc_quest
-  bfc_sought_lem c ey el er fl fr et es eq = cc
+abbrev pub Said : {A : Type 0} → Result ⊤ Refusal → A → Result A Refusal
+Said k v = elim k [ Ok _ ↦ Ok v | Err n ↦ Err n ]
 
--- ---- what the code of `landed` says
+said_ok : {A : Type 0} (k : Result ⊤ Refusal) (v : A) {t : A} → Said k v ≡ Ok t → (k ≡ Ok tt) × (v ≡ t)
+said_ok (Ok _) v e = (refl, cc)
+said_ok (Err n) v e = cc
 
-module _ (q : Quest) (i k : ℕ) where
-  pub landing_at : i < q.n → Sought.At i q.above ≡ landing q i k
-  landing_at h = rw (lt-ltb i q.n h)
+said_err : {A : Type 0} (k : Result ⊤ Refusal) (v : A) {n : Refusal} → Said k v ≡ Err n → k ≡ Err n
+said_err (Ok _) v e = cc
+said_err (Err n) v e = cc
 
-  pub landing_past : q.n ≤ i → k < q.n → Sought.Past q.above ≡ landing q i k
-  landing_past h e = rw (le-ltb i q.n h, lt-ltb k q.n e)
+-- a question and its first phase wait for one check; w is what the check answered
+module _ {A B : Type 0} {question : Page → Result A Refusal} (f : Page → A) {q : Result Quest Refusal} (k : Result ⊤ Refusal) (x : Quest) (eq : q ≡ Said k x) (ea : (p : Page) → question p ≡ Said k (f p)) (v : B) {w : Result B Refusal} (ew : w ≡ Said k v) where
+  asks_no : {n : Refusal} → w ≡ Err n → {r : Result Quest Refusal} → r ≡ Err n → Asks question q r
+  asks_no {n} e {r} er =
+      let no : k ≡ Err n = said_err k v (sym ew ∙ e) in
+      record {
+        is = er ∙ sym (eq ∙ ap (λ (k : Result ⊤ Refusal). Said k x) no);
+        live = rw er tt;
+        refused = λ m g p. let same : n ≡ m = cc (er, g) in ea p ∙ ap (λ (k : Result ⊤ Refusal). Said k (f p)) no ∙ ap Err same;
+      }
 
-  pub landing_quiet : q.n ≤ i → q.n ≤ k → Sought.Quiet q.y ≡ landing q i k
-  landing_quiet h e = rw (le-ltb i q.n h, le-ltb k q.n e)
+  asks_yes : {t : B} → w ≡ Ok t → {o : Quest} → o.n ≤ 96 → o.from ≤ o.n → o ≡ x → Asks question q (Ok o)
+  asks_yes {t} e few within eo =
+      let yes : k ≡ Ok tt = (said_ok k v (sym ew ∙ e)).0 in
+      record {
+        is = ap Ok eo ∙ sym (eq ∙ ap (λ (k : Result ⊤ Refusal). Said k x) yes);
+        live = (few, within);
+        refused = λ m g p. cc;
+      }
 
--- and back, by its two tests
+-- ---- where the code of `landed` lands, by its two tests
+
 module _ (i : ℕ) (y z : Float) where
   at_told : (a t : Bool) {m : ℕ} {w : Float} → cond a (Sought.At i z) (cond t (Sought.Past z) (Sought.Quiet y)) ≡ Sought.At m w → (a ≡ true) × (i ≡ m)
   at_told true t e = (refl, cc)
@@ -191,52 +204,90 @@ module _ (h : Head) (bs : List Segment) (xs : List PlacedFloatedBox) (len : leng
       ∙ last_end_at bs q.n y (omega arith) g
       ∙ ap (last_end y) (ap (λ (n : ℕ). take n bs) en ∙ sym (live h bs xs len))
 
--- by the question's call
-module _ (h : Head) (c : ContentCall) (bs : List Segment) (xs : List PlacedFloatedBox) (len : length bs ≡ 96) {q : Quest} (eq : q ≡ content_quest h c) where
-  content_check_lem : q.check ≡ content_check (content_cleaned c)
-  unfolding content_quest
-  content_check_lem = ap (λ (q : Quest). q.check) eq
+-- ---- a content question
 
-  pub content_refused : {n : Refusal} → q.check ≡ Check.Refused n → ContentAnswer.Refused n ≡ content (page_in h bs xs) c
+-- both phases wait for its check
+module _ (c : ContentCall) where
+  content_waits : (p : Page) → content p c ≡ Said (content_check (content_cleaned c)) (content_slot p (record { left = plus_zero c.left; right = plus_zero c.right }) (seek p (clear_of c.clear) c.after (plus_zero c.min_y)))
   unfolding content
-  content_refused e = rw (sym content_check_lem ∙ e, content_asked, content)
+  content_waits p = refl
 
-  module _ {i k : ℕ} {b : Segment} {s : Sought} (es : s ≡ landing q i k) (f : Found bs q i k) (eb : b ≡ get_or bs (min i 95) none) where
-    content_lands : s ≡ seek (page_in h bs xs) (clear_of c.clear) c.after (plus_zero c.min_y)
+  module _ (h : Head) where
+    content_quest_waits : content_quest h c ≡ Said (content_check (content_cleaned c)) (quest_of h (clear_of c.clear) c.after (plus_zero c.min_y))
     unfolding content_quest
-    content_lands = es ∙ ap (λ (q : Quest). landing q i k) eq ∙ seeks h bs xs len (content_check (content_cleaned c)) (clear_of c.clear) c.after (plus_zero c.min_y) (subst (λ (q : Quest). Found bs q i k) eq f)
+    content_quest_waits = refl
 
-    pub content_passed : {o : ContentSlot} {l r x y : Float} → q.check ≡ Check.Passed → c.left ≡ x → c.right ≡ y → l ≡ plus_zero x → r ≡ plus_zero y → ((p : Page) → p.width ≡ h.width → ((m : ℕ) (y : Float) → s ≡ Sought.At m y → b ≡ get_or p.bands m none) → o ≡ content_slot p (record { left = l; right = r }) s) → ContentAnswer.Slot o ≡ content (page_in h bs xs) c
-    unfolding content content_quest page_of
-    content_passed {o} {l} {r} ec el er fl fr slot =
-        let p = page_in h bs xs in
-        let e : o ≡ content_slot p (record { left = l; right = r }) s = slot p refl (band_read h bs xs len q (ap (λ (q : Quest). q.n) eq) i k es eb) in
-        let u : l ≡ plus_zero c.left = cc in
-        let v : r ≡ plus_zero c.right = cc in
-        rw (sym content_check_lem ∙ ec, content_asked, content) (ap ContentAnswer.Slot (e ∙ ap₂ (content_slot p) (ap₂ (λ (a b : Float). record { left = a; right = b }) u v) content_lands))
+    -- w is what the check of the cleaned numbers answered
+    module _ {y l r : Float} (ey : y ≡ plus_zero c.min_y) (el : l ≡ plus_zero c.left) (er : r ≡ plus_zero c.right) {w : Result Clear Refusal} (ew : w ≡ Said (check_of (ltb c.clear 4) (offset y ∷ size l ∷ size r ∷ [])) (clear_of c.clear)) where
+      content_checked : w ≡ Said (content_check (content_cleaned c)) (clear_of c.clear)
+      content_checked = let k : check_of (ltb c.clear 4) (offset y ∷ size l ∷ size r ∷ []) ≡ content_check (content_cleaned c) = cc in ew ∙ ap (λ (k : Result ⊤ Refusal). Said k (clear_of c.clear)) k
 
-module _ (h : Head) (c : BfcCall) (bs : List Segment) (xs : List PlacedFloatedBox) (len : length bs ≡ 96) {q : Quest} (eq : q ≡ bfc_quest h c) where
-  bfc_check_lem : q.check ≡ bfc_check (bfc_cleaned c)
-  unfolding bfc_quest
-  bfc_check_lem = ap (λ (q : Quest). q.check) eq
+      pub content_not_asked : {n : Refusal} → w ≡ Err n → {q : Result Quest Refusal} → q ≡ Err n → Asks (λ p. content p c) (content_quest h c) q
+      content_not_asked e eq = asks_no _ _ _ content_quest_waits content_waits _ content_checked e eq
 
-  pub bfc_refused : {n : Refusal} → q.check ≡ Check.Refused n → BfcAnswer.Refused n ≡ bfc (page_in h bs xs) c
+      pub content_asks : {s : Clear} → w ≡ Ok s → {q : Quest} → (q.n ≤ 96) × (q.from ≤ q.n) × (q ≡ quest_of h s c.after y) → Asks (λ p. content p c) (content_quest h c) (Ok q)
+      content_asks {s} e g =
+          let m : clear_of c.clear ≡ s = (said_ok _ _ (sym content_checked ∙ e)).1 in
+          asks_yes _ _ _ content_quest_waits content_waits _ content_checked e g.0 g.1 (g.2 ∙ rw (← m, ey) (refl))
+
+    -- q is what was looked for, s where the search landed, b the band that was read there
+    module _ (bs : List Segment) (xs : List PlacedFloatedBox) (len : length bs ≡ 96) {q : Quest} (eq : content_quest h c ≡ Ok q) {i k : ℕ} {s : Sought} (es : s ≡ landing q i k) (f : Found bs q i k) {b : Segment} (eb : b ≡ get_or bs (min i 95) none) where
+      pub content_answered : {o : ContentSlot} {l r x y : Float} → c.left ≡ x → c.right ≡ y → l ≡ plus_zero x → r ≡ plus_zero y → ((p : Page) → p.width ≡ h.width → ((m : ℕ) (y : Float) → s ≡ Sought.At m y → b ≡ get_or p.bands m none) → o ≡ content_slot p (record { left = l; right = r }) s) → content (page_in h bs xs) c ≡ Ok o
+      unfolding page_of
+      content_answered {o} {l} {r} el er fl fr slot =
+          let p = page_in h bs xs in
+          let t = said_ok _ _ (sym content_quest_waits ∙ eq) in
+          let a : s ≡ seek p (clear_of c.clear) c.after (plus_zero c.min_y) = es ∙ sought h bs xs len (clear_of c.clear) c.after (plus_zero c.min_y) t.1 f in
+          let e : o ≡ content_slot p (record { left = l; right = r }) s = slot p refl (band_read h bs xs len q (sym (ap (λ (q : Quest). q.n) t.1)) i k es eb) in
+          let u : l ≡ plus_zero c.left = cc in
+          let v : r ≡ plus_zero c.right = cc in
+          content_waits p
+          ∙ ap (λ (k : Result ⊤ Refusal). Said k (content_slot p (record { left = plus_zero c.left; right = plus_zero c.right }) (seek p (clear_of c.clear) c.after (plus_zero c.min_y)))) t.0
+          ∙ ap Ok (sym (e ∙ ap₂ (content_slot p) (ap₂ (λ (a b : Float). record { left = a; right = b }) u v) a))
+
+-- ---- a BFC question, the same way
+
+module _ (c : BfcCall) where
+  bfc_waits : (p : Page) → bfc p c ≡ Said (bfc_check (bfc_cleaned c)) (bfc_slot p (direction_of c.direction) (bfc_insets (bfc_cleaned c)) (seek p (clear_of c.clear) c.after (plus_zero c.min_y)))
   unfolding bfc
-  bfc_refused e = rw (sym bfc_check_lem ∙ e, bfc_asked, bfc)
+  bfc_waits p = refl
 
-  module _ {i k : ℕ} {b last : Segment} {s : Sought} (es : s ≡ landing q i k) (f : Found bs q i k) (eb : b ≡ get_or bs (min i 95) none) (el : last ≡ get_or bs (q.n - min q.n 1) none) where
-    bfc_lands : s ≡ seek (page_in h bs xs) (clear_of c.clear) c.after (plus_zero c.min_y)
+  module _ (h : Head) where
+    bfc_quest_waits : bfc_quest h c ≡ Said (bfc_check (bfc_cleaned c)) (quest_of h (clear_of c.clear) c.after (plus_zero c.min_y))
     unfolding bfc_quest
-    bfc_lands = es ∙ ap (λ (q : Quest). landing q i k) eq ∙ seeks h bs xs len (bfc_check (bfc_cleaned c)) (clear_of c.clear) c.after (plus_zero c.min_y) (subst (λ (q : Quest). Found bs q i k) eq f)
+    bfc_quest_waits = refl
 
-    pub bfc_passed : {o : BfcSlot} {d : Direction} {j : BfcInsets} → q.check ≡ Check.Passed → d ≡ direction_of c.direction → j ≡ bfc_insets (bfc_cleaned c) → ((p : Page) → p.width ≡ h.width → ((m : ℕ) (y : Float) → s ≡ Sought.At m y → b ≡ get_or p.bands m none) → ((y : Float) → s ≡ Sought.Past y → last.end ≡ last_end y p.bands) → o ≡ bfc_slot p d j s) → BfcAnswer.Slot o ≡ bfc (page_in h bs xs) c
-    unfolding bfc bfc_quest page_of
-    bfc_passed {o} {d} {j} ec ed ej slot =
-        let p = page_in h bs xs in
-        let en : q.n ≡ min h.count 96 = ap (λ (q : Quest). q.n) eq in
-        let e : o ≡ bfc_slot p d j s = slot p refl (band_read h bs xs len q en i k es eb) (last_read h bs xs len q en i k es el) in
-        let u : bfc_slot p d j s ≡ bfc_slot p (direction_of c.direction) (bfc_insets (bfc_cleaned c)) (seek p (clear_of c.clear) c.after (plus_zero c.min_y)) = cc bfc_lands in
-        rw (sym bfc_check_lem ∙ ec, bfc_asked, bfc) (ap BfcAnswer.Slot (e ∙ u))
+    module _ {y l r ml mr : Float} (ey : y ≡ plus_zero c.min_y) (el : l ≡ plus_zero c.left) (er : r ≡ plus_zero c.right) (fl : ml ≡ plus_zero c.left_margin) (fr : mr ≡ plus_zero c.right_margin) {w : Result (Direction × Clear) Refusal} (ew : w ≡ Said {A = Direction × Clear} (check_of (ltb c.direction 2 && ltb c.clear 4) (offset y ∷ size l ∷ size r ∷ offset ml ∷ offset mr ∷ [])) (direction_of c.direction, clear_of c.clear)) where
+      bfc_checked : w ≡ Said {A = Direction × Clear} (bfc_check (bfc_cleaned c)) (direction_of c.direction, clear_of c.clear)
+      bfc_checked = let k : check_of (ltb c.direction 2 && ltb c.clear 4) (offset y ∷ size l ∷ size r ∷ offset ml ∷ offset mr ∷ []) ≡ bfc_check (bfc_cleaned c) = cc in ew ∙ ap (λ (k : Result ⊤ Refusal). Said {A = Direction × Clear} k (direction_of c.direction, clear_of c.clear)) k
+
+      pub bfc_not_asked : {n : Refusal} → w ≡ Err n → {q : Result Quest Refusal} → q ≡ Err n → Asks (λ p. bfc p c) (bfc_quest h c) q
+      bfc_not_asked e eq = asks_no _ _ _ bfc_quest_waits bfc_waits _ bfc_checked e eq
+
+      pub bfc_asks : {t : Direction × Clear} → w ≡ Ok t → {q : Quest} → (q.n ≤ 96) × (q.from ≤ q.n) × (q ≡ quest_of h t.1 c.after y) → Asks (λ p. bfc p c) (bfc_quest h c) (Ok q)
+      bfc_asks {t} e g =
+          let m : clear_of c.clear ≡ t.1 = ap (λ (t : Direction × Clear). t.1) (said_ok _ _ (sym bfc_checked ∙ e)).1 in
+          asks_yes _ _ _ bfc_quest_waits bfc_waits _ bfc_checked e g.0 g.1 (g.2 ∙ rw (← m, ey) (refl))
+
+    module _ (bs : List Segment) (xs : List PlacedFloatedBox) (len : length bs ≡ 96) {q : Quest} (eq : bfc_quest h c ≡ Ok q) {i k : ℕ} {s : Sought} (es : s ≡ landing q i k) (f : Found bs q i k) {b last : Segment} (eb : b ≡ get_or bs (min i 95) none) (el : last ≡ get_or bs (q.n - min q.n 1) none) where
+      -- d is what the direction's code means
+      pub bfc_answered : {o : BfcSlot} {d : Direction} {j : BfcInsets} → d ≡ direction_of c.direction → j ≡ bfc_insets (bfc_cleaned c) → ((p : Page) → p.width ≡ h.width → ((m : ℕ) (y : Float) → s ≡ Sought.At m y → b ≡ get_or p.bands m none) → ((y : Float) → s ≡ Sought.Past y → last.end ≡ last_end y p.bands) → o ≡ bfc_slot p d j s) → bfc (page_in h bs xs) c ≡ Ok o
+      unfolding page_of
+      bfc_answered {o} {d} {j} ed ej slot =
+          let p = page_in h bs xs in
+          let t = said_ok _ _ (sym bfc_quest_waits ∙ eq) in
+          let a : s ≡ seek p (clear_of c.clear) c.after (plus_zero c.min_y) = es ∙ sought h bs xs len (clear_of c.clear) c.after (plus_zero c.min_y) t.1 f in
+          let en : q.n ≡ min h.count 96 = sym (ap (λ (q : Quest). q.n) t.1) in
+          let e : o ≡ bfc_slot p d j s = slot p refl (band_read h bs xs len q en i k es eb) (last_read h bs xs len q en i k es el) in
+          bfc_waits p
+          ∙ ap (λ (k : Result ⊤ Refusal). Said k (bfc_slot p (direction_of c.direction) (bfc_insets (bfc_cleaned c)) (seek p (clear_of c.clear) c.after (plus_zero c.min_y)))) t.0
+          ∙ ap Ok (sym (e ∙ cc (a, ed, ej)))
+
+-- the direction as it is read: a code that is unknown is none of a question that is asked
+pub direction_read : (n : ℕ) → result_unwrap_or (cond (ltb n 2) (Ok (direction_of n)) (Err Refusal.UnknownCode)) Direction.Rtl ≡ direction_of n
+direction_read zero = refl
+direction_read (suc zero) = refl
+direction_read (suc (suc n)) = rw (le-ltb (suc (suc n)) 2 (omega arith)) (refl)
 
 -- the insets as they are read, of what was handed in
 pub insets_read : (c : BfcCall) {l r ml mr x y u v : Float} {j : BfcInsets} → c.left ≡ x → c.right ≡ y → c.left_margin ≡ u → c.right_margin ≡ v → l ≡ plus_zero x → r ≡ plus_zero y → ml ≡ plus_zero u → mr ≡ plus_zero v → j ≡ record { containing = record { left = l; right = r }; margin = record { left = add binary32 l ml; right = add binary32 r mr } } → j ≡ bfc_insets (bfc_cleaned c)

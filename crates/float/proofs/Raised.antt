@@ -1,10 +1,9 @@
 -- A band that ends below a raised height ends below the height: the order is transitive on all values, NaN included, by writing the three over one denominator.
-use Rattle.std.proofs.Common.{◌≡◌, ℕ, ◌+◌, ◌*◌, ◌<◌, Bool, true, false, cond, sym, refl, ◌∙◌, true≢false, mul-one, mul_right_comm, arith, ltb-true, lt-ltb}
+use Rattle.std.proofs.Common.{◌≡◌, ℕ, ◌+◌, ◌*◌, ◌<◌, Bool, true, false, cond, sym, refl, ◌∙◌, true≢false, mul-one, mul_right_comm, arith, ltb-true, lt-ltb, Option, Some, None}
 use lib.Ieee.{Float, nan, inf, fin, up, down, lt, below}
 use lib.Ieee.Fits.{down_pos}
 use Rattle.f32_laws.proofs.Fractions.{below_same}
 use Rattle.f32_laws.specs.Numbers.{larger}
-use Rattle.float.specs.declared.Bottom.{Bottom}
 use Rattle.float.specs.Clear.{raise_to}
 
 below_trans : (s t u : Bool) (x y z : ℕ) → below s x t y ≡ true → below t y u z ≡ true → below s x u z ≡ true
@@ -60,7 +59,7 @@ larger_below y x e h = go (lt y x) refl h
     go true q h = lt_trans y x e q h
     go false q h = h
 
-pub raised_below : (y : Float) (b : Bottom) (e : Float) → lt (raise_to y b) e ≡ true → lt y e ≡ true
+pub raised_below : (y : Float) (b : Option Float) (e : Float) → lt (raise_to y b) e ≡ true → lt y e ≡ true
 unfolding raise_to
-raised_below y Bottom.None e h = h
-raised_below y (Bottom.At x) e h = larger_below y x e h
+raised_below y None e h = h
+raised_below y (Some x) e h = larger_below y x e h

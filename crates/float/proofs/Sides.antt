@@ -1,6 +1,8 @@
 -- The boxes of one side: laws of `of_side`, a box at a time.
-use Rattle.std.proofs.Common.{◌≡◌, ℕ, suc, ◌+◌, ◌<◌, ◌≤◌, min, Bool, true, false, List, [], ◌∷◌, ◌++◌, length, get_or, take, set, replicate, sym, refl, ap, ◌∙◌, subst₂, append-nil, suc-le-suc, le_refl, add-one, arith, length-append, length-take-le, take-suc}
+use Rattle.std.proofs.Common.{◌≡◌, ℕ, suc, ◌+◌, ◌<◌, ◌≤◌, min, Bool, true, false, List, [], ◌∷◌, ◌++◌, length, get_or, take, set, replicate, sym, refl, ap, ◌∙◌, subst₂, append-nil, suc-le-suc, le_refl, add-one, arith, length-append, length-take-le, take_all, take-suc}
+use denote.Enum.Bare.{sameb}
 use lib.ListN.{length-replicate}
+use Rattle.float.specs.contracts.FloatDirection.{the_type}
 use Rattle.float.specs.declared.FloatContext.{FloatContext}
 use Rattle.float.specs.declared.FloatDirection.{FloatDirection}
 use Rattle.float.specs.declared.FloatList.{FloatList}
@@ -38,6 +40,13 @@ side_length d (x ∷ l) = go (same_side d x.side) (side_length d l)
     go true h = suc-le-suc h
     go false h = omega arith
 
+-- the derived test
+same : (s t : FloatDirection) → same_side t s ≡ sameb the_type s t
+same FloatDirection.Left FloatDirection.Left = refl
+same FloatDirection.Left FloatDirection.Right = refl
+same FloatDirection.Right FloatDirection.Left = refl
+same FloatDirection.Right FloatDirection.Right = refl
+
 -- the first i boxes are looked at: `out` begins with those of the side d, and `count` is their number
 pub record Picked (d : FloatDirection) (boxes : List PlacedFloatedBox) (i : ℕ) (out : List PlacedFloatedBox) (count : ℕ) : Type 0 where
   pub count_is : count ≡ length (of_side d (take i boxes))
@@ -69,19 +78,19 @@ module _ (d : FloatDirection) (boxes : List PlacedFloatedBox) where
         record { count_is = p.count_is ∙ ap length (sym e); out_is = p.out_is ∙ ap (λ (l : List PlacedFloatedBox). front l (replicate max_boxes no_box)) (sym e) }
 
   -- the same as the loop has it, after either branch
-  module _ (n i : ℕ) (out : List PlacedFloatedBox) (count : ℕ) (x : PlacedFloatedBox) (h : i < n) (b : n ≤ length boxes) (b' : length boxes ≤ 64) (p : Picked d boxes i out count) (r : Bool) (e : r ≡ same_side d (get_or boxes i x).side) (out' : List PlacedFloatedBox) (count' : ℕ) where
-    pub took : r ≡ true → out' ≡ set out count (get_or boxes i x) → count' ≡ count + 1 → (i + 1 ≤ n) × (count' ≤ i + 1) × Picked d boxes (i + 1) out' count'
+  module _ (i : ℕ) (out : List PlacedFloatedBox) (count : ℕ) (x : PlacedFloatedBox) (h : i < length boxes) (b : length boxes ≤ 64) (p : Picked d boxes i out count) (r : Bool) (e : r ≡ sameb the_type (get_or boxes i x).side d) (out' : List PlacedFloatedBox) (count' : ℕ) where
+    pub took : r ≡ true → out' ≡ set out count (get_or boxes i x) → count' ≡ count + 1 → (count' ≤ i + 1) × Picked d boxes (i + 1) out' count'
     took t u v =
-        let q : Picked d boxes (i + 1) (set out count (get_or boxes i x)) (count + 1) = picked_more i out count x (omega arith) b' p (sym e ∙ t) in
-        (omega arith, omega (arith, count_low i out count x (omega arith) p), subst₂ (λ (o : List PlacedFloatedBox) (k : ℕ). Picked d boxes (i + 1) o k) (sym u) (sym v) q)
+        let q : Picked d boxes (i + 1) (set out count (get_or boxes i x)) (count + 1) = picked_more i out count x h b p (same (get_or boxes i x).side d ∙ sym e ∙ t) in
+        (omega (arith, count_low i out count x h p), subst₂ (λ (o : List PlacedFloatedBox) (k : ℕ). Picked d boxes (i + 1) o k) (sym u) (sym v) q)
 
-    pub left : r ≡ false → out' ≡ out → count' ≡ count → (i + 1 ≤ n) × (count' ≤ i + 1) × Picked d boxes (i + 1) out' count'
+    pub left : r ≡ false → out' ≡ out → count' ≡ count → (count' ≤ i + 1) × Picked d boxes (i + 1) out' count'
     left t u v =
-        let q : Picked d boxes (i + 1) out count = picked_same i out count x (omega arith) p (sym e ∙ t) in
-        (omega arith, omega (arith, count_low i out count x (omega arith) p), subst₂ (λ (o : List PlacedFloatedBox) (k : ℕ). Picked d boxes (i + 1) o k) (sym u) (sym v) q)
+        let q : Picked d boxes (i + 1) out count = picked_same i out count x h p (same (get_or boxes i x).side d ∙ sym e ∙ t) in
+        (omega (arith, count_low i out count x h p), subst₂ (λ (o : List PlacedFloatedBox) (k : ℕ). Picked d boxes (i + 1) o k) (sym u) (sym v) q)
 
-  pub picked_all : (n i : ℕ) (out : List PlacedFloatedBox) (count : ℕ) → i ≡ n → Picked d boxes i out count → ◌≡◌ {A = FloatList} (record { boxes = out; count = count }) (list_of (of_side d (take n boxes)))
-  picked_all n i out count e p = cc (e, p.count_is, p.out_is)
+  pub picked_all : (i : ℕ) (out : List PlacedFloatedBox) (count : ℕ) → length boxes ≤ i → Picked d boxes i out count → ◌≡◌ {A = FloatList} (record { boxes = out; count = count }) (list_of (of_side d boxes))
+  picked_all i out count h p = cc (take_all i boxes h, p.count_is, p.out_is)
 
 -- a page's list of one side, from the list of its live boxes
 pub floats_are : (p : FloatContext) (d : FloatDirection) (n : ℕ) (r : FloatList) → length p.boxes ≡ 64 → n ≡ min p.box_count 64 → r ≡ list_of (of_side d (take n p.boxes)) → r ≡ floats_of d (page_of p)

@@ -1,5 +1,5 @@
 -- Laws of the search, a turn at a time: which turn a state takes, and that the turns lead from the first state to the answer.
-use Rattle.std.proofs.Common.{◌≡◌, ℕ, zero, suc, ◌+◌, ◌-◌, ◌<◌, ◌≤◌, max, true, false, eqb, ltb, List, length, get_or, take, sym, ap, ◌∙◌, add-one, arith, length-take-le, get_or-take, le-ltb, lt-ltb}
+use Rattle.std.proofs.Common.{◌≡◌, ℕ, zero, suc, ◌+◌, ◌-◌, ◌<◌, ◌≤◌, max, true, false, eqb, ltb, List, length, get_or, sym, ap, ◌∙◌, add-one, arith, le-ltb, lt-ltb}
 use lib.Ieee.{Float, le}
 use Rattle.f32_laws.specs.Numbers.{larger, zero+}
 use Rattle.float.specs.declared.Segment.{Segment}
@@ -48,45 +48,42 @@ module _ (l : List Segment) (a : Ask) where
       let n : F ≡ (F - k) + k = omega arith in
       sym (ap (λ (m : ℕ). search m l a st₀) n ∙ c.by (F - k) ∙ go_stop (F - k) st s e)
 
--- the turns, over the first n bands of an array
-module _ (bs : List Segment) (n : ℕ) (h : n ≤ length bs) (a : Ask) (t : Try) where
-  abbrev l : List Segment
-  l = take n bs
+-- the turns
+module _ (l : List Segment) (a : Ask) (t : Try) where
+  inn : (i : ℕ) → i < length l → ltb i (length l) ≡ true
+  inn i p = lt-ltb i (length l) p
 
-  inn : (i : ℕ) → i < n → ltb i (length l) ≡ true
-  inn i p = let q = length-take-le n bs h in lt-ltb i (length l) (omega arith)
-
-  out : (i : ℕ) → n ≤ i → ltb i (length l) ≡ false
-  out i p = let q = length-take-le n bs h in le-ltb i (length l) (omega arith)
+  out : (i : ℕ) → length l ≤ i → ltb i (length l) ≡ false
+  out i p = le-ltb i (length l) p
 
   -- the start is given up: the next state, where the code's larger number is e
   abbrev Lower : ℕ → State
   Lower e = at_start (record { start = t.start + 1; end = e; y = t.y; steps = t.steps + 1 })
 
-  pub start_out : n ≤ t.start → turn l a (at_start t) ≡ stop (spot t a.cb_lead)
+  pub start_out : length l ≤ t.start → turn l a (at_start t) ≡ stop (spot t a.cb_lead)
   unfolding start_turn
   start_out p = simp (out t.start p)
 
-  pub start_no : (e : ℕ) → e ≡ max t.end (t.start + 1) → t.start < n → fits a (lead a.side (get_or bs t.start none)) (trail a.side (get_or bs t.start none)) ≡ false → turn l a (at_start t) ≡ again (Lower e)
+  pub start_no : (e : ℕ) → e ≡ max t.end (t.start + 1) → t.start < length l → fits a (lead a.side (get_or l t.start none)) (trail a.side (get_or l t.start none)) ≡ false → turn l a (at_start t) ≡ again (Lower e)
   unfolding start_turn
-  start_no e m p f = simp (inn t.start p, get_or-take n bs t.start none p, f, m, add-one)
+  start_no e m p f = simp (inn t.start p, f, m, add-one)
 
-  pub start_yes : (y : Float) (r : Reach) → y ≡ larger t.y (get_or bs t.start none).start → r ≡ opened a.side (get_or bs t.start none) y → t.start < n → fits a (lead a.side (get_or bs t.start none)) (trail a.side (get_or bs t.start none)) ≡ true → turn l a (at_start t) ≡ turn l a (at_end (record { start = t.start; end = t.end; y = y; steps = t.steps }) r)
+  pub start_yes : (y : Float) (r : Reach) → y ≡ larger t.y (get_or l t.start none).start → r ≡ opened a.side (get_or l t.start none) y → t.start < length l → fits a (lead a.side (get_or l t.start none)) (trail a.side (get_or l t.start none)) ≡ true → turn l a (at_start t) ≡ turn l a (at_end (record { start = t.start; end = t.end; y = y; steps = t.steps }) r)
   unfolding start_turn fit_turn
-  start_yes y r u v p f = simp (inn t.start p, get_or-take n bs t.start none p, f, v, u)
+  start_yes y r u v p f = simp (inn t.start p, f, v, u)
 
   module _ (r : Reach) where
-    pub end_out : (i : Float) → i ≡ placed_at a r.lead → n ≤ t.end → turn l a (at_end t r) ≡ stop (spot t i)
+    pub end_out : (i : Float) → i ≡ placed_at a r.lead → length l ≤ t.end → turn l a (at_end t r) ≡ stop (spot t i)
     unfolding end_turn
     end_out i m p = simp (out t.end p, m)
 
-    pub end_no : (e : ℕ) → e ≡ max t.end (t.start + 1) → t.end < n → (j : Reach) → j ≡ joined a.side r (get_or bs t.end none) → fits a j.lead j.trail ≡ false → turn l a (at_end t r) ≡ again (Lower e)
+    pub end_no : (e : ℕ) → e ≡ max t.end (t.start + 1) → t.end < length l → (j : Reach) → j ≡ joined a.side r (get_or l t.end none) → fits a j.lead j.trail ≡ false → turn l a (at_end t r) ≡ again (Lower e)
     unfolding end_turn join_turn
-    end_no e m p j q f = simp (inn t.end p, get_or-take n bs t.end none p, sym q, f, m, add-one)
+    end_no e m p j q f = simp (inn t.end p, sym q, f, m, add-one)
 
-    pub end_yes : t.end < n → (j : Reach) → j ≡ joined a.side r (get_or bs t.end none) → fits a j.lead j.trail ≡ true → (g : Reach) → g ≡ taller j (get_or bs t.end none) (eqb t.end t.start) → turn l a (at_end t r) ≡ high_turn a t g
+    pub end_yes : t.end < length l → (j : Reach) → j ≡ joined a.side r (get_or l t.end none) → fits a j.lead j.trail ≡ true → (g : Reach) → g ≡ taller j (get_or l t.end none) (eqb t.end t.start) → turn l a (at_end t r) ≡ high_turn a t g
     unfolding end_turn join_turn
-    end_yes p j q f g u = simp (inn t.end p, get_or-take n bs t.end none p, sym q, f, sym u)
+    end_yes p j q f g u = simp (inn t.end p, sym q, f, sym u)
 
     pub end_short : (g : Reach) → turn l a (at_end t r) ≡ high_turn a t g → le a.height g.height ≡ false → turn l a (at_end t r) ≡ again (at_end (record { start = t.start; end = t.end + 1; y = t.y; steps = t.steps + 1 }) g)
     unfolding high_turn
@@ -96,8 +93,6 @@ module _ (bs : List Segment) (n : ℕ) (h : n ≤ length bs) (a : Ask) (t : Try)
     unfolding high_turn
     end_done g i m p f = p ∙ simp (f, m)
 
-pub finish : (bs : List Segment) (n : ℕ) (h : n ≤ length bs) (a : Ask) (first : ℕ) (y : Float) {st : State} (s : Spot) {k : ℕ} → Comes (take n bs) a (at_start (try_from first y)) st k → k ≤ n + n → turn (take n bs) a st ≡ stop s → s ≡ search_from (take n bs) a first y
+pub finish : (l : List Segment) (a : Ask) (first : ℕ) (y : Float) {st : State} (s : Spot) {k : ℕ} → Comes l a (at_start (try_from first y)) st k → k ≤ length l + length l → turn l a st ≡ stop s → s ≡ search_from l a first y
 unfolding search_from
-finish bs n h a first y s {k = k} c m e =
-    let q = length-take-le n bs h in
-    comes_stop (take n bs) a k (length (take n bs) + length (take n bs)) c e (omega arith)
+finish l a first y s {k = k} c m e = comes_stop l a k (length l + length l) c e m

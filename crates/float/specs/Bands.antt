@@ -1,8 +1,7 @@
 -- Bands: a band's sides, and what is done to a list of them. Definitions only.
-use Rattle.std.specs.Prelude.{ℕ, zero, suc, Bool, true, false, List, [], ◌∷◌, Float}
+use Rattle.std.specs.Prelude.{ℕ, zero, suc, Bool, true, false, List, [], ◌∷◌, Float, Option, Some, None}
 use Rattle.std.specs.Float.{nan}
 use Rattle.std.specs.Float.Ieee.{lt}
-use Rattle.float.specs.declared.BoxNumber.{BoxNumber}
 use Rattle.float.specs.declared.FloatDirection.{FloatDirection}
 use Rattle.float.specs.declared.Segment.{Segment}
 
@@ -28,12 +27,12 @@ abbrev pub has_float : FloatDirection → Segment → Bool
 has_float s b = on_side s b.left_float b.right_float
 
 -- the number of the box last recorded on a side (1/14)
-abbrev pub box_on : FloatDirection → Segment → BoxNumber
+abbrev pub box_on : FloatDirection → Segment → Option ℕ
 box_on s b = on_side s b.left_box b.right_box
 
 -- a band with no float
 abbrev pub bare : (start end left right : Float) → Segment
-bare s e l r = record { start = s; end = e; left = l; right = r; left_float = false; right_float = false; left_box = BoxNumber.None; right_box = BoxNumber.None }
+bare s e l r = record { start = s; end = e; left = l; right = r; left_float = false; right_float = false; left_box = None; right_box = None }
 
 -- what a read past the last band gives
 abbrev pub none : Segment
@@ -45,8 +44,8 @@ spanning b s e = record { start = s; end = e; left = b.left; right = b.right; le
 
 -- a band with the inset v, a float and the box k on one side
 abbrev pub marked : FloatDirection → (inset : Float) (number : ℕ) → Segment → Segment
-marked FloatDirection.Left v k b = record { start = b.start; end = b.end; left = v; right = b.right; left_float = true; right_float = b.right_float; left_box = BoxNumber.At k; right_box = b.right_box }
-marked FloatDirection.Right v k b = record { start = b.start; end = b.end; left = b.left; right = v; left_float = b.left_float; right_float = true; left_box = b.left_box; right_box = BoxNumber.At k }
+marked FloatDirection.Left v k b = record { start = b.start; end = b.end; left = v; right = b.right; left_float = true; right_float = b.right_float; left_box = Some k; right_box = b.right_box }
+marked FloatDirection.Right v k b = record { start = b.start; end = b.end; left = b.left; right = v; left_float = b.left_float; right_float = true; left_box = b.left_box; right_box = Some k }
 
 -- band i split at y
 unfoldable pub split_at : List Segment → ℕ → Float → List Segment

@@ -1,7 +1,6 @@
 -- The page as lists, and how it lies in the struct. Definitions only.
-use Rattle.std.specs.Prelude.{ℕ, List, ◌++◌, length, take, drop, replicate, Float}
+use Rattle.std.specs.Prelude.{ℕ, List, ◌++◌, length, take, drop, replicate, Float, Option, None}
 use Rattle.f32_laws.specs.Numbers.{zero+}
-use Rattle.float.specs.declared.Bottom.{Bottom}
 use Rattle.float.specs.declared.FloatContext.{FloatContext}
 use Rattle.float.specs.declared.FloatDirection.{FloatDirection}
 use Rattle.float.specs.declared.PlacedFloatedBox.{PlacedFloatedBox}
@@ -20,10 +19,10 @@ pub record Page : Type 0 where
   pub width : Float
   pub bands : List Segment
   pub boxes : List PlacedFloatedBox
-  pub left_bottom : Bottom
-  pub right_bottom : Bottom
-  pub ceiling : Bottom
-  pub depth : Bottom
+  pub left_bottom : Option Float
+  pub right_bottom : Option Float
+  pub ceiling : Option Float
+  pub depth : Option Float
   pub left_first : ℕ
   pub right_first : ℕ
 
@@ -73,10 +72,10 @@ fresh_context = record {
   count = 0;
   boxes = replicate max_boxes no_box;
   box_count = 0;
-  left_bottom = Bottom.None;
-  right_bottom = Bottom.None;
-  ceiling = Bottom.None;
-  depth = Bottom.None;
+  left_bottom = None;
+  right_bottom = None;
+  ceiling = None;
+  depth = None;
   left_first = 0;
   right_first = 0;
 }

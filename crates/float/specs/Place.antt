@@ -1,18 +1,14 @@
 -- Placing by rules 1 to 8, its refusals, and the width. Definitions only.
-use Rattle.std.specs.Prelude.{ℕ, zero, suc, ◌-◌, max, Bool, true, false, cond, ◌&&◌, List, [], ◌∷◌, ◌++◌, length, get_or, ◌==◌, nat_le, nat_lt, Float}
+use Rattle.std.specs.Prelude.{ℕ, zero, suc, ◌-◌, max, Bool, true, false, cond, ◌&&◌, List, [], ◌∷◌, ◌++◌, length, get_or, ◌==◌, nat_le, nat_lt, Float, Some, Result, Ok, Err, ⊤}
 use Rattle.std.specs.Float.{inf, binary32}
 use Rattle.std.specs.Float.Ieee.{add, sub, lt, le, eq}
 use Rattle.f32_laws.specs.Numbers.{larger, zero+}
-use Rattle.float.specs.declared.Bottom.{Bottom}
-use Rattle.float.specs.declared.Done.{Done}
 use Rattle.float.specs.declared.FloatContext.{FloatContext}
-use Rattle.float.specs.declared.PlaceAnswer.{PlaceAnswer}
 use Rattle.float.specs.declared.Placed.{Placed}
 use Rattle.float.specs.declared.PlacedFloatedBox.{PlacedFloatedBox}
 use Rattle.float.specs.declared.Refusal.{Refusal}
 use Rattle.float.specs.declared.Segment.{Segment}
 use Rattle.float.specs.declared.Widened.{Widened}
-use Rattle.float.specs.declared.refuse.Check.{Check}
 use Rattle.float.specs.declared.fit.Ask.{Ask}
 use Rattle.float.specs.declared.search.Spot.{Spot}
 use Rattle.float.specs.Numbers.{Given, size, offset, plus_zero, in_reach}
@@ -21,6 +17,7 @@ use Rattle.float.specs.Bands.{none, bare, on_side, split_at, mark_all, last_end,
 use Rattle.float.specs.Page.{Page, page_of, stored, max_bands, max_boxes}
 use Rattle.float.specs.Clear.{lower, raise_to, cleared}
 use Rattle.float.specs.Search.{search_from}
+use Rattle.float.specs.declared.Position.{Position}
 
 -- a placement as it is handed in: two codes and five numbers
 pub record Call : Type 0 where
@@ -39,12 +36,12 @@ cleaned c = record { side = c.side; clear = c.clear; width = plus_zero c.width; 
 abbrev pub numbers : Call → List Given
 numbers c = size c.width ∷ size c.height ∷ offset c.min_y ∷ size c.left ∷ size c.right ∷ []
 
-abbrev pub input_check : Call → Check
+abbrev pub input_check : Call → Result ⊤ Refusal
 input_check c = check_of (nat_lt c.side 2 && nat_lt c.clear 4) (numbers c)
 
 -- an answer and the page after it
-pub record Result : Type 0 where
-  pub answer : PlaceAnswer
+pub record PlaceResult : Type 0 where
+  pub answer : Result Position Refusal
   pub page : Page
 
 -- rule 1: min_y raised to the ceiling and to the cleared bottoms
@@ -150,10 +147,10 @@ counted p a i y = record {
   width = p.width;
   bands = p.bands;
   boxes = p.boxes ++ box_of a i y ∷ [];
-  left_bottom = on_side a.side (lower p.left_bottom (Bottom.At (add binary32 y a.height))) p.left_bottom;
-  right_bottom = on_side a.side p.right_bottom (lower p.right_bottom (Bottom.At (add binary32 y a.height)));
-  ceiling = lower p.ceiling (Bottom.At y);
-  depth = lower p.depth (Bottom.At (add binary32 y a.height));
+  left_bottom = on_side a.side (lower p.left_bottom (Some (add binary32 y a.height))) p.left_bottom;
+  right_bottom = on_side a.side p.right_bottom (lower p.right_bottom (Some (add binary32 y a.height)));
+  ceiling = lower p.ceiling (Some y);
+  depth = lower p.depth (Some (add binary32 y a.height));
   left_first = p.left_first;
   right_first = p.right_first;
 }
@@ -162,66 +159,66 @@ counted p a i y = record {
 abbrev pub x_of : Ask → (inset : Float) → Float
 x_of a i = on_side a.side i (sub binary32 (sub binary32 a.page i) a.width)
 
-abbrev pub refuse : Page → Refusal → Result
-refuse p n = record { answer = PlaceAnswer.Refused n; page = p }
+abbrev pub refuse : Page → Refusal → PlaceResult
+refuse p n = record { answer = Err n; page = p }
 
-abbrev pub accept : Page → Ask → Spot → (y : Float) → Result
-accept p a s y = record { answer = PlaceAnswer.At (x_of a s.inset) y s.steps; page = counted p a s.inset y }
+abbrev pub accept : Page → Ask → Spot → (y : Float) → PlaceResult
+accept p a s y = record { answer = Ok (record { x = x_of a s.inset; y = y; steps = s.steps }); page = counted p a s.inset y }
 
 -- refusal 6 is given where this fails
 abbrev pub near : Ask → (inset y : Float) → Bool
 near a i y = in_reach (add binary32 y a.height) && in_reach (add binary32 i a.width)
 
 -- a box with a height: refusals 6 and 7, then rule 8
-unfoldable pub high : Page → Ask → Spot → Made → Result
+unfoldable pub high : Page → Ask → Spot → Made → PlaceResult
 high p a s m =
     cond (near a s.inset m.y)
     (cond (nat_le (length m.bands) max_bands) (accept (recorded p a s.inset m) a s m.y) (refuse p Refusal.BandsFull))
     (refuse p Refusal.TooFar)
 
 -- rule 5: a box of no height answers y as it stands; no band and no kept band number changes
-unfoldable pub flat : Page → Ask → Spot → Result
+unfoldable pub flat : Page → Ask → Spot → PlaceResult
 flat p a s = cond (near a s.inset s.y) (accept p a s s.y) (refuse p Refusal.TooFar)
 
-unfoldable pub put : Page → Ask → Spot → Result
+unfoldable pub put : Page → Ask → Spot → PlaceResult
 put p a s = cond (eq a.height zero+) (flat p a s) (high p a s (make a p.bands s))
 
 -- refusal 5
-unfoldable pub admitted : Page → Call → Result
+unfoldable pub admitted : Page → Call → PlaceResult
 admitted p c = cond (nat_lt (length p.boxes) max_boxes) (put p (ask_of p c) (spot_of p c)) (refuse p Refusal.BoxesFull)
 
-unfoldable pub checked : Page → Call → Result
-checked p c = elim (input_check c) [ Check.Passed ↦ admitted p c | Check.Refused n ↦ refuse p n ]
+unfoldable pub checked : Page → Call → PlaceResult
+checked p c = elim (input_check c) [ Ok _ ↦ admitted p c | Err n ↦ refuse p n ]
 
 -- `place_floated_box`, on pages
-unfoldable pub place : Page → Call → Result
+unfoldable pub place : Page → Call → PlaceResult
 place p c = checked p (cleaned c)
 
 -- and on structs: a refusal hands back the very struct
-abbrev pub placed_page : PlaceAnswer → Page → FloatContext → FloatContext
-placed_page (PlaceAnswer.Refused n) q p = p
-placed_page (PlaceAnswer.At x y k) q p = stored q p
+abbrev pub placed_page : Result Position Refusal → Page → FloatContext → FloatContext
+placed_page (Err n) q p = p
+placed_page (Ok s) q p = stored q p
 
-abbrev pub held : FloatContext → Result → Placed
+abbrev pub held : FloatContext → PlaceResult → Placed
 held p r = record { answer = r.answer; page = placed_page r.answer r.page p }
 
 unfoldable pub place_of : FloatContext → Call → Placed
 place_of p c = held p (place (page_of p) c)
 
 -- `set_width`: refusals 2, 3 and 4
-unfoldable pub width_check : List PlacedFloatedBox → Float → Done
+unfoldable pub width_check : List PlacedFloatedBox → Float → Result ⊤ Refusal
 width_check boxes w =
     elim (check_of true (size w ∷ [])) [
-      | Check.Passed ↦ cond (length boxes == 0) Done.Accepted (Done.Refused Refusal.WidthFixed)
-      | Check.Refused n ↦ Done.Refused n
+      | Ok _ ↦ cond (length boxes == 0) (Ok tt) (Err Refusal.WidthFixed)
+      | Err n ↦ Err n
     ]
 
 abbrev pub with_width : Page → Float → Page
 with_width p w = record { width = w; bands = p.bands; boxes = p.boxes; left_bottom = p.left_bottom; right_bottom = p.right_bottom; ceiling = p.ceiling; depth = p.depth; left_first = p.left_first; right_first = p.right_first }
 
-abbrev pub if_done {ℓ} : {A : Type ℓ} → Done → A → A → A
-if_done Done.Accepted new old = new
-if_done (Done.Refused n) new old = old
+abbrev pub if_done {ℓ} : {A : Type ℓ} → Result ⊤ Refusal → A → A → A
+if_done (Ok _) new old = new
+if_done (Err n) new old = old
 
 -- on pages
 unfoldable pub set_width : Page → Float → Page

@@ -1,10 +1,9 @@
 -- The numbered no: the paper's number of each refusal, the codes, and refusals 1 to 3. Definitions only.
-use Rattle.std.specs.Prelude.{ℕ, zero, suc, Bool, cond, List}
+use Rattle.std.specs.Prelude.{ℕ, zero, suc, Bool, cond, List, Result, Ok, Err, ⊤}
 use Rattle.float.specs.declared.Refusal.{Refusal}
 use Rattle.float.specs.declared.FloatDirection.{FloatDirection}
 use Rattle.float.specs.declared.Clear.{Clear}
 use Rattle.float.specs.declared.Direction.{Direction}
-use Rattle.float.specs.declared.refuse.Check.{Check}
 use Rattle.float.specs.Numbers.{Given, all_finite, all_allowed}
 
 -- the paper's number
@@ -35,10 +34,10 @@ direction_of zero = Direction.Ltr
 direction_of (suc n) = Direction.Rtl
 
 -- refusals 1 to 3, the lowest first: each is tested over all codes or all numbers of the call before the next
-unfoldable pub check_of : Bool → List Given → Check
+unfoldable pub check_of : Bool → List Given → Result ⊤ Refusal
 check_of known gs =
     cond known
     (cond (all_finite gs)
-    (cond (all_allowed gs) Check.Passed (Check.Refused Refusal.OutOfLimits))
-    (Check.Refused Refusal.NotFinite))
-    (Check.Refused Refusal.UnknownCode)
+    (cond (all_allowed gs) (Ok tt) (Err Refusal.OutOfLimits))
+    (Err Refusal.NotFinite))
+    (Err Refusal.UnknownCode)

@@ -1,25 +1,16 @@
 -- Questions: what the page tells, the search of both slot questions, content and BFC. Definitions only.
-use Rattle.std.specs.Prelude.{ℕ, suc, Bool, true, false, cond, ◌&&◌, List, [], ◌∷◌, length, get_or, replicate, nat_lt, slice_index_or, Float}
+use Rattle.std.specs.Prelude.{ℕ, suc, Bool, true, false, cond, ◌&&◌, List, [], ◌∷◌, length, get_or, replicate, nat_lt, slice_index_or, Float, Option, Some, None, Result, Ok, Err, ⊤}
 use Rattle.std.specs.Float.{binary32}
 use Rattle.std.specs.Float.Ieee.{add, sub}
 use Rattle.f32_laws.specs.Numbers.{larger, smaller}
-use Rattle.float.specs.declared.BandNumber.{BandNumber}
-use Rattle.float.specs.declared.BfcAnswer.{BfcAnswer}
 use Rattle.float.specs.declared.BfcSlot.{BfcSlot}
-use Rattle.float.specs.declared.Bottom.{Bottom}
-use Rattle.float.specs.declared.BoxNumber.{BoxNumber}
 use Rattle.float.specs.declared.Clear.{Clear}
-use Rattle.float.specs.declared.ContentAnswer.{ContentAnswer}
 use Rattle.float.specs.declared.ContentSlot.{ContentSlot}
 use Rattle.float.specs.declared.Direction.{Direction}
 use Rattle.float.specs.declared.FloatDirection.{FloatDirection}
 use Rattle.float.specs.declared.FloatList.{FloatList}
-use Rattle.float.specs.declared.Innermost.{Innermost}
 use Rattle.float.specs.declared.PlacedFloatedBox.{PlacedFloatedBox}
 use Rattle.float.specs.declared.Segment.{Segment}
-use Rattle.float.specs.declared.Threshold.{Threshold}
-use Rattle.float.specs.declared.YesNo.{YesNo}
-use Rattle.float.specs.declared.refuse.Check.{Check}
 use Rattle.float.specs.declared.bfc.BfcBoxes.{BfcBoxes}
 use Rattle.float.specs.declared.bfc.BfcInsets.{BfcInsets}
 use Rattle.float.specs.declared.slot.Insets.{Insets}
@@ -29,6 +20,7 @@ use Rattle.float.specs.Refuse.{side_of, clear_of, direction_of, check_of}
 use Rattle.float.specs.Bands.{none, on_side, same_side, lead, has_float, box_on, last_end, first_below}
 use Rattle.float.specs.Page.{Page, front, no_box, max_boxes}
 use Rattle.float.specs.Clear.{raise_to, cleared}
+use Rattle.float.specs.declared.Refusal.{Refusal}
 
 -- ---- what the page tells
 
@@ -41,31 +33,31 @@ unfoldable pub active : List Segment → Float → Bool
 active l y = nat_lt (first_below l 0 y) (length l)
 
 -- `has_active_floats`: refusals 2 and 3
-unfoldable pub has_active_floats : Page → Float → YesNo
+unfoldable pub has_active_floats : Page → Float → Result Bool Refusal
 has_active_floats p x =
     let y = plus_zero x in
-    elim (check_of true (offset y ∷ [])) [ Check.Passed ↦ YesNo.Answer (active p.bands y) | Check.Refused n ↦ YesNo.Refused n ]
+    elim (check_of true (offset y ∷ [])) [ Ok _ ↦ Ok (active p.bands y) | Err n ↦ Err n ]
 
 -- `cleared_threshold`: refusal 1
-unfoldable pub cleared_threshold : Page → ℕ → Threshold
-cleared_threshold p c = elim (check_of (nat_lt c 4) []) [ Check.Passed ↦ Threshold.Answer (cleared p (clear_of c)) | Check.Refused n ↦ Threshold.Refused n ]
+unfoldable pub cleared_threshold : Page → ℕ → Result (Option Float) Refusal
+cleared_threshold p c = elim (check_of (nat_lt c 4) []) [ Ok _ ↦ Ok (cleared p (clear_of c)) | Err n ↦ Err n ]
 
 -- `depth` (3/14): the largest bottom of all accepted boxes, as the page keeps it
-unfoldable pub depth_of : Page → Bottom
+unfoldable pub depth_of : Page → Option Float
 depth_of p = p.depth
 
 -- the box last recorded in a band on a side; none where the mark is not set
-abbrev pub recorded_on : FloatDirection → Segment → BoxNumber
-recorded_on s b = cond (has_float s b) (box_on s b) BoxNumber.None
+abbrev pub recorded_on : FloatDirection → Segment → Option ℕ
+recorded_on s b = cond (has_float s b) (box_on s b) None
 
 -- in the band with this number; none where there is no such band
-abbrev pub innermost_on : FloatDirection → List Segment → BandNumber → BoxNumber
-innermost_on s l BandNumber.None = BoxNumber.None
-innermost_on s l (BandNumber.At i) = recorded_on s (slice_index_or l i none)
+abbrev pub innermost_on : FloatDirection → List Segment → Option ℕ → Option ℕ
+innermost_on s l None = None
+innermost_on s l (Some i) = recorded_on s (slice_index_or l i none)
 
 -- `innermost` (1/14): refusal 1
-unfoldable pub innermost : Page → BandNumber → ℕ → Innermost
-innermost p i s = elim (check_of (nat_lt s 2) []) [ Check.Passed ↦ Innermost.Answer (innermost_on (side_of s) p.bands i) | Check.Refused n ↦ Innermost.Refused n ]
+unfoldable pub innermost : Page → Option ℕ → ℕ → Result (Option ℕ) Refusal
+innermost p i s = elim (check_of (nat_lt s 2) []) [ Ok _ ↦ Ok (innermost_on (side_of s) p.bands i) | Err n ↦ Err n ]
 
 -- `left_floats` and `right_floats`: the boxes of one side, in order
 unfoldable pub of_side : FloatDirection → List PlacedFloatedBox → List PlacedFloatedBox
@@ -82,16 +74,16 @@ floats_of d p = list_of (of_side d p.boxes)
 -- ---- the search of both questions
 
 -- the first band number allowed, by `after` alone (2/14)
-abbrev pub from : BandNumber → ℕ
-from BandNumber.None = 0
-from (BandNumber.At k) = suc k
+abbrev pub from : Option ℕ → ℕ
+from None = 0
+from (Some k) = suc k
 
 -- the band i at y, or past the last
 abbrev pub landed : List Segment → ℕ → Float → Sought
 landed l i y = cond (nat_lt i (length l)) (Sought.At i y) (Sought.Past y)
 
 -- with no band below min_y clear isn't looked at; else min_y is raised to the cleared bottoms
-unfoldable pub seek : Page → Clear → BandNumber → Float → Sought
+unfoldable pub seek : Page → Clear → Option ℕ → Float → Sought
 seek p c after y =
     cond (active p.bands y)
     (landed p.bands (first_below p.bands (from after) (raise_to y (cleared p c))) (raise_to y (cleared p c)))
@@ -109,13 +101,13 @@ pub record ContentCall : Type 0 where
   pub left : Float
   pub right : Float
   pub clear : ℕ
-  pub after : BandNumber
+  pub after : Option ℕ
 
 -- the same with plus zero for minus zero
 abbrev pub content_cleaned : ContentCall → ContentCall
 content_cleaned c = record { min_y = plus_zero c.min_y; left = plus_zero c.left; right = plus_zero c.right; clear = c.clear; after = c.after }
 
-abbrev pub content_check : ContentCall → Check
+abbrev pub content_check : ContentCall → Result ⊤ Refusal
 content_check c = check_of (nat_lt c.clear 4) (offset c.min_y ∷ size c.left ∷ size c.right ∷ [])
 
 -- each inset is the larger of the band's and the containing one
@@ -123,26 +115,26 @@ abbrev pub beside_band : Segment → Insets → Insets
 beside_band b cb = record { left = larger b.left cb.left; right = larger b.right cb.right }
 
 -- x is the left inset
-abbrev pub content_at : Page → BandNumber → Float → Insets → ContentSlot
+abbrev pub content_at : Page → Option ℕ → Float → Insets → ContentSlot
 content_at p n y i = record { band = n; x = i.left; y = y; width = less p i }
 
 -- y is the larger of min_y and the band's start, or min_y as it stands
 unfoldable pub content_slot : Page → Insets → Sought → ContentSlot
-content_slot p cb (Sought.Quiet y) = content_at p BandNumber.None y cb
-content_slot p cb (Sought.Past y) = content_at p BandNumber.None y cb
+content_slot p cb (Sought.Quiet y) = content_at p None y cb
+content_slot p cb (Sought.Past y) = content_at p None y cb
 content_slot p cb (Sought.At i y) =
     let b = get_or p.bands i none in
-    content_at p (BandNumber.At i) (larger y b.start) (beside_band b cb)
+    content_at p (Some i) (larger y b.start) (beside_band b cb)
 
-abbrev pub content_asked : Page → ContentCall → ContentAnswer
+abbrev pub content_asked : Page → ContentCall → Result ContentSlot Refusal
 content_asked p c =
     elim (content_check c) [
-      | Check.Passed ↦ ContentAnswer.Slot (content_slot p (record { left = c.left; right = c.right }) (seek p (clear_of c.clear) c.after c.min_y))
-      | Check.Refused n ↦ ContentAnswer.Refused n
+      | Ok _ ↦ Ok (content_slot p (record { left = c.left; right = c.right }) (seek p (clear_of c.clear) c.after c.min_y))
+      | Err n ↦ Err n
     ]
 
 -- `find_content_slot`
-unfoldable pub content : Page → ContentCall → ContentAnswer
+unfoldable pub content : Page → ContentCall → Result ContentSlot Refusal
 content p c = content_asked p (content_cleaned c)
 
 -- ---- BFC
@@ -156,13 +148,13 @@ pub record BfcCall : Type 0 where
   pub right_margin : Float
   pub direction : ℕ
   pub clear : ℕ
-  pub after : BandNumber
+  pub after : Option ℕ
 
 -- the same with plus zero for minus zero
 abbrev pub bfc_cleaned : BfcCall → BfcCall
 bfc_cleaned c = record { min_y = plus_zero c.min_y; left = plus_zero c.left; right = plus_zero c.right; left_margin = plus_zero c.left_margin; right_margin = plus_zero c.right_margin; direction = c.direction; clear = c.clear; after = c.after }
 
-abbrev pub bfc_check : BfcCall → Check
+abbrev pub bfc_check : BfcCall → Result ⊤ Refusal
 bfc_check c = check_of (nat_lt c.direction 2 && nat_lt c.clear 4) (offset c.min_y ∷ size c.left ∷ size c.right ∷ offset c.left_margin ∷ offset c.right_margin ∷ [])
 
 -- a margin inset is containing inset plus margin
@@ -204,24 +196,24 @@ abbrev pub beside_none : BfcInsets → BfcBoxes
 beside_none i = record { border = i.margin; stretch = i.margin }
 
 -- x is the left border inset
-abbrev pub bfc_at : Page → BandNumber → Float → BfcBoxes → BfcSlot
+abbrev pub bfc_at : Page → Option ℕ → Float → BfcBoxes → BfcSlot
 bfc_at p n y o = record { band = n; x = o.border.left; y = y; border_width = less p o.border; stretch_width = less p o.stretch }
 
 -- no band: y is min_y, or, after a search, the larger of that and the last end; with a band, y as for content
 unfoldable pub bfc_slot : Page → Direction → BfcInsets → Sought → BfcSlot
-bfc_slot p d i (Sought.Quiet y) = bfc_at p BandNumber.None y (beside_none i)
-bfc_slot p d i (Sought.Past y) = bfc_at p BandNumber.None (larger y (last_end y p.bands)) (beside_none i)
+bfc_slot p d i (Sought.Quiet y) = bfc_at p None y (beside_none i)
+bfc_slot p d i (Sought.Past y) = bfc_at p None (larger y (last_end y p.bands)) (beside_none i)
 bfc_slot p d i (Sought.At k y) =
     let b = get_or p.bands k none in
-    bfc_at p (BandNumber.At k) (larger y b.start) (beside_both d b i)
+    bfc_at p (Some k) (larger y b.start) (beside_both d b i)
 
-abbrev pub bfc_asked : Page → BfcCall → BfcAnswer
+abbrev pub bfc_asked : Page → BfcCall → Result BfcSlot Refusal
 bfc_asked p c =
     elim (bfc_check c) [
-      | Check.Passed ↦ BfcAnswer.Slot (bfc_slot p (direction_of c.direction) (bfc_insets c) (seek p (clear_of c.clear) c.after c.min_y))
-      | Check.Refused n ↦ BfcAnswer.Refused n
+      | Ok _ ↦ Ok (bfc_slot p (direction_of c.direction) (bfc_insets c) (seek p (clear_of c.clear) c.after c.min_y))
+      | Err n ↦ Err n
     ]
 
 -- `find_bfc_slot`
-unfoldable pub bfc : Page → BfcCall → BfcAnswer
+unfoldable pub bfc : Page → BfcCall → Result BfcSlot Refusal
 bfc p c = bfc_asked p (bfc_cleaned c)

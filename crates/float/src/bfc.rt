@@ -1,4 +1,4 @@
-// BFC: the slot where a search lands, and the question with the page by value.
+// BFC: the slot where a search lands, and the question to a page that is lent.
 ghost use Rattle.std.specs.Prelude.{◌≡◌, ℕ, if◌then◌else◌, slice_index_or, Float};
 ghost use Rattle.std.specs.Float.{binary32};
 ghost use Rattle.std.specs.Float.Ieee.{add};
@@ -8,7 +8,7 @@ ghost use Rattle.float.specs.Page.{Page, page_of};
 ghost use Rattle.float.specs.Slot.{beside_both, beside_none, bfc_at, bfc_slot, bfc};
 
 use crate::slot::{Insets, Sought};
-use crate::{BandNumber, BfcAnswer, BfcSlot, Direction, FloatContext, Segment, ask, number};
+use crate::{BfcSlot, Direction, FloatContext, Refusal, Segment, ask, number};
 
 // What a BFC question hands in: the containing insets, and the margin insets.
 #[derive(Clone, Copy)]
@@ -50,17 +50,12 @@ fn trail_inset(marked: bool, inset: f32, containing: f32, margin: f32) -> f32
 pub fn bfc_insets(left: f32, right: f32, left_margin: f32, right_margin: f32) -> BfcInsets
     ensures { result ≡ record { containing = record { left = left; right = right }; margin = record { left = add binary32 left left_margin; right = add binary32 right right_margin } } }
 {
-    let containing = Insets {
-        left: left,
-        right: right,
-    };
-    let margin = Insets {
-        left: left + left_margin,
-        right: right + right_margin,
-    };
     BfcInsets {
-        containing: containing,
-        margin: margin,
+        containing: Insets { left, right },
+        margin: Insets {
+            left: left + left_margin,
+            right: right + right_margin,
+        },
     }
 }
 
@@ -70,58 +65,42 @@ fn beside_both(direction: Direction, b: Segment, i: BfcInsets) -> BfcBoxes
 {
     let cb = i.containing;
     let m = i.margin;
-    let left = stretch_inset(b.left_float, b.left, m.left);
-    let right = stretch_inset(b.right_float, b.right, m.right);
     let stretch = Insets {
-        left: left,
-        right: right,
+        left: stretch_inset(b.left_float, b.left, m.left),
+        right: stretch_inset(b.right_float, b.right, m.right),
     };
-    match direction {
-        Direction::Ltr => {
-            let border = Insets {
-                left: left,
-                right: trail_inset(b.right_float, b.right, cb.right, m.right),
-            };
-            BfcBoxes {
-                border: border,
-                stretch: stretch,
-            }
-        }
-        Direction::Rtl => {
-            let border = Insets {
-                left: trail_inset(b.left_float, b.left, cb.left, m.left),
-                right: right,
-            };
-            BfcBoxes {
-                border: border,
-                stretch: stretch,
-            }
-        }
-    }
+    let border = match direction {
+        Direction::Ltr => Insets {
+            right: trail_inset(b.right_float, b.right, cb.right, m.right),
+            ..stretch
+        },
+        Direction::Rtl => Insets {
+            left: trail_inset(b.left_float, b.left, cb.left, m.left),
+            ..stretch
+        },
+    };
+    BfcBoxes { border, stretch }
 }
 
 // Without a band both use the margin insets.
 fn beside_none(i: BfcInsets) -> BfcBoxes
     ensures { result ≡ beside_none i }
 {
-    let margin = i.margin;
     BfcBoxes {
-        border: margin,
-        stretch: margin,
+        border: i.margin,
+        stretch: i.margin,
     }
 }
 
-fn bfc_at(width: f32, band: BandNumber, y: f32, o: BfcBoxes) -> BfcSlot
+fn bfc_at(width: f32, band: Option<usize>, y: f32, o: BfcBoxes) -> BfcSlot
     ensures { (p : Page) → p.width ≡ width → result ≡ bfc_at p band y o }
 {
-    let border = o.border;
-    let stretch = o.stretch;
     BfcSlot {
-        band: band,
-        x: border.left,
-        y: y,
-        border_width: width - border.left - border.right,
-        stretch_width: width - stretch.left - stretch.right,
+        band,
+        x: o.border.left,
+        y,
+        border_width: width - o.border.left - o.border.right,
+        stretch_width: width - o.stretch.left - o.stretch.right,
     }
 }
 
@@ -137,22 +116,22 @@ pub fn bfc_slot(
     ensures { (p : Page) → p.width ≡ width → ((k : ℕ) (y : Float) → s ≡ Sought.At k y → b ≡ slice_index_or p.bands k none) → ((y : Float) → s ≡ Sought.Past y → end ≡ last_end y p.bands) → result ≡ bfc_slot p direction i s }
 {
     match s {
-        Sought::Quiet(y) => bfc_at(width, BandNumber::None, y, beside_none(i)),
+        Sought::Quiet(y) => bfc_at(width, None, y, beside_none(i)),
         Sought::Past(y) => {
             let below = number::larger(y, end);
-            bfc_at(width, BandNumber::None, below, beside_none(i))
+            bfc_at(width, None, below, beside_none(i))
         }
         Sought::At(k, y) => {
             let at = number::larger(y, b.start);
             let boxes = beside_both(direction, b, i);
-            bfc_at(width, BandNumber::At(k), at, boxes)
+            bfc_at(width, Some(k), at, boxes)
         }
     }
 }
 
 impl FloatContext {
     pub fn find_bfc_slot(
-        self,
+        &self,
         min_y: f32,
         left: f32,
         right: f32,
@@ -160,9 +139,9 @@ impl FloatContext {
         right_margin: f32,
         direction: u8,
         clear: u8,
-        after: BandNumber,
-    ) -> BfcAnswer
-        ensures { result ≡ bfc (page_of self) (record { min_y = min_y; left = left; right = right; left_margin = left_margin; right_margin = right_margin; direction = direction; clear = clear; after = after }) }
+        after: Option<usize>,
+    ) -> Result<BfcSlot, Refusal>
+        ensures { result ≡ bfc (page_of self.now) (record { min_y = min_y; left = left; right = right; left_margin = left_margin; right_margin = right_margin; direction = direction; clear = clear; after = after }) }
     {
         let head = self.head();
         let q = ask::bfc_quest(
@@ -175,29 +154,11 @@ impl FloatContext {
             direction,
             clear,
             after,
-        );
-        let n = q.n;
-        let mut i = q.from;
-        while i < n {
-            if self.bands[i].end > q.above {
-                break;
-            }
-            i += 1;
-        }
-        let mut k: usize = 0;
-        if i == n {
-            while k < n {
-                if self.bands[k].end > q.y {
-                    break;
-                }
-                k += 1;
-            }
-        }
-        let at = number::smaller_n(i, 95);
-        let b = self.bands[at];
-        let top = n - number::smaller_n(n, 1);
-        let last = self.bands[top];
-        ask::bfc_found(
+        )?;
+        let (i, k) = ask::looked(q, &self.bands);
+        let b = self.bands[i.min(95)];
+        let last = self.bands[q.n - q.n.min(1)];
+        Ok(ask::bfc_found(
             head,
             q,
             i,
@@ -209,6 +170,6 @@ impl FloatContext {
             left_margin,
             right_margin,
             direction,
-        )
+        ))
     }
 }

@@ -2,27 +2,20 @@
 ghost use Rattle.std.specs.Prelude.{◌≡◌};
 ghost use Rattle.float.specs.Calculator.{started_with, calculator_of, zeroed as zeroed_of, summed as summed_of, added_sums, added_widest, added as added_of, add_of, result_of};
 
-use crate::refuse::Check;
 use crate::{
-    Added, AvailableSpace, CalculatorAnswer, Clear, Done, FloatDirection,
-    FloatIntrinsicWidthCalculator, Refusal, number, refuse,
+    Added, AvailableSpace, Clear, FloatDirection, FloatIntrinsicWidthCalculator, Refusal, number,
+    refuse,
 };
 
 // A cleared side's row of floats begins anew.
 fn zeroed(clear: Clear, side: FloatDirection, sum: f32) -> f32
     ensures { result ≡ zeroed_of clear side sum }
 {
-    match clear {
-        Clear::None => sum,
-        Clear::Left => match side {
-            FloatDirection::Left => 0.0,
-            FloatDirection::Right => sum,
-        },
-        Clear::Right => match side {
-            FloatDirection::Left => sum,
-            FloatDirection::Right => 0.0,
-        },
-        Clear::Both => 0.0,
+    match (clear, side) {
+        (Clear::Left, FloatDirection::Left) => 0.0,
+        (Clear::Right, FloatDirection::Right) => 0.0,
+        (Clear::Both, _) => 0.0,
+        _ => sum,
     }
 }
 
@@ -32,22 +25,19 @@ fn summed(c: FloatIntrinsicWidthCalculator, width: f32, left: f32, right: f32) -
 {
     let both = left + right;
     if number::in_reach(left) & number::in_reach(right) & number::in_reach(both) {
-        let available = c.available;
-        let total = number::larger(c.total, both);
-        let widest = number::larger(c.widest, width);
         Added {
-            answer: Done::Accepted,
+            answer: Ok(()),
             calculator: FloatIntrinsicWidthCalculator {
-                available: available,
                 left_sum: left,
                 right_sum: right,
-                total: total,
-                widest: widest,
+                total: number::larger(c.total, both),
+                widest: number::larger(c.widest, width),
+                ..c
             },
         }
     } else {
         Added {
-            answer: Done::Refused(Refusal::TooFar),
+            answer: Err(Refusal::TooFar),
             calculator: c,
         }
     }
@@ -72,17 +62,12 @@ fn added_sums(
 fn added_widest(c: FloatIntrinsicWidthCalculator, width: f32) -> Added
     ensures { result ≡ added_widest c width }
 {
-    let available = c.available;
-    let total = number::larger(c.total, width);
-    let widest = number::larger(c.widest, width);
     Added {
-        answer: Done::Accepted,
+        answer: Ok(()),
         calculator: FloatIntrinsicWidthCalculator {
-            available: available,
-            left_sum: c.left_sum,
-            right_sum: c.right_sum,
-            total: total,
-            widest: widest,
+            total: number::larger(c.total, width),
+            widest: number::larger(c.widest, width),
+            ..c
         },
     }
 }
@@ -90,54 +75,46 @@ fn added_widest(c: FloatIntrinsicWidthCalculator, width: f32) -> Added
 fn added(c: FloatIntrinsicWidthCalculator, width: f32, side: FloatDirection, clear: Clear) -> Added
     ensures { result ≡ added_of c width side clear c.available }
 {
-    let available = c.available;
-    match available {
+    match c.available {
         AvailableSpace::MinContent => added_widest(c, width),
         AvailableSpace::MaxContent => added_sums(c, width, side, clear),
         AvailableSpace::Definite(_) => added_sums(c, width, side, clear),
     }
 }
 
-fn started(available: AvailableSpace) -> CalculatorAnswer
-    ensures { result ≡ CalculatorAnswer.Started (started_with available) }
+fn started(available: AvailableSpace) -> FloatIntrinsicWidthCalculator
+    ensures { result ≡ started_with available }
 {
-    CalculatorAnswer::Started(FloatIntrinsicWidthCalculator {
-        available: available,
+    FloatIntrinsicWidthCalculator {
+        available,
         left_sum: 0.0,
         right_sum: 0.0,
         total: 0.0,
         widest: 0.0,
-    })
+    }
 }
 
 impl FloatIntrinsicWidthCalculator {
     // A definite width is a number handed in: refusals 2 and 3.
-    pub fn new(available: AvailableSpace) -> CalculatorAnswer
+    pub fn new(available: AvailableSpace) -> Result<Self, Refusal>
         ensures { result ≡ calculator_of available }
     {
-        match available {
-            AvailableSpace::MinContent => started(available),
-            AvailableSpace::MaxContent => started(available),
-            AvailableSpace::Definite(given) => {
-                let width = number::plus_zero(given);
-                let check = refuse::check_size(width);
-                match check {
-                    Check::Passed => started(AvailableSpace::Definite(width)),
-                    Check::Refused(no) => CalculatorAnswer::Refused(no),
-                }
-            }
-        }
+        let AvailableSpace::Definite(given) = available else {
+            return Ok(started(available));
+        };
+        let width = number::plus_zero(given);
+        refuse::check_size(width)?;
+        Ok(started(AvailableSpace::Definite(width)))
     }
 
     pub fn add_float(self, width: f32, side: u8, clear: u8) -> Added
         ensures { result ≡ add_of self width side clear }
     {
-        let given = number::plus_zero(width);
-        let check = refuse::check_add(given, side, clear);
-        match check {
-            Check::Passed => added(self, given, refuse::side_of(side), refuse::clear_of(clear)),
-            Check::Refused(no) => Added {
-                answer: Done::Refused(no),
+        let width = number::plus_zero(width);
+        match refuse::check_add(width, side, clear) {
+            Ok((side, clear)) => added(self, width, side, clear),
+            Err(no) => Added {
+                answer: Err(no),
                 calculator: self,
             },
         }
@@ -147,8 +124,7 @@ impl FloatIntrinsicWidthCalculator {
     pub fn result(self) -> f32
         ensures { result ≡ result_of self }
     {
-        let available = self.available;
-        match available {
+        match self.available {
             AvailableSpace::MinContent => self.total,
             AvailableSpace::MaxContent => self.total,
             AvailableSpace::Definite(width) => number::larger(

@@ -4,35 +4,32 @@ ghost use Rattle.float.specs.Page.{Page, page_of};
 ghost use Rattle.float.specs.Slot.{cleared_threshold};
 ghost use Rattle.float.specs.Clear.{lower as lower_of, raise_to, cleared as cleared_of};
 
-use crate::refuse::Check;
-use crate::{Bottom, Clear, FloatContext, Threshold, number, refuse};
+use crate::{Clear, FloatContext, Refusal, number};
 
-pub fn lower(a: Bottom, b: Bottom) -> Bottom
+pub fn lower(a: Option<f32>, b: Option<f32>) -> Option<f32>
     ensures { result ≡ lower_of a b }
 {
-    match a {
-        Bottom::None => b,
-        Bottom::At(x) => match b {
-            Bottom::None => a,
-            Bottom::At(y) => Bottom::At(number::larger(x, y)),
-        },
+    match (a, b) {
+        (None, _) => b,
+        (_, None) => a,
+        (Some(x), Some(y)) => Some(number::larger(x, y)),
     }
 }
 
-pub fn raise_to(y: f32, b: Bottom) -> f32
+pub fn raise_to(y: f32, b: Option<f32>) -> f32
     ensures { result ≡ raise_to y b }
 {
     match b {
-        Bottom::None => y,
-        Bottom::At(x) => number::larger(y, x),
+        None => y,
+        Some(x) => number::larger(y, x),
     }
 }
 
-pub fn cleared(left: Bottom, right: Bottom, clear: Clear) -> Bottom
+pub fn cleared(left: Option<f32>, right: Option<f32>, clear: Clear) -> Option<f32>
     ensures { (p : Page) → p.left_bottom ≡ left → p.right_bottom ≡ right → result ≡ cleared_of p clear }
 {
     match clear {
-        Clear::None => Bottom::None,
+        Clear::None => None,
         Clear::Left => left,
         Clear::Right => right,
         Clear::Both => lower(left, right),
@@ -40,17 +37,10 @@ pub fn cleared(left: Bottom, right: Bottom, clear: Clear) -> Bottom
 }
 
 impl FloatContext {
-    pub fn cleared_threshold(self, clear: u8) -> Threshold
-        ensures { result ≡ cleared_threshold (page_of self) clear }
+    pub fn cleared_threshold(&self, clear: u8) -> Result<Option<f32>, Refusal>
+        ensures { result ≡ cleared_threshold (page_of self.now) clear }
     {
-        let check = refuse::check_clear(clear);
-        match check {
-            Check::Passed => {
-                let left = self.left_bottom;
-                let right = self.right_bottom;
-                Threshold::Answer(cleared(left, right, refuse::clear_of(clear)))
-            }
-            Check::Refused(no) => Threshold::Refused(no),
-        }
+        let clear = Clear::try_from(clear)?;
+        Ok(cleared(self.left_bottom, self.right_bottom, clear))
     }
 }

@@ -1,19 +1,19 @@
-// Content: the slot where a search lands, and the question with the page by value.
+// Content: the slot where a search lands, and the question to a page that is lent.
 ghost use Rattle.std.specs.Prelude.{◌≡◌, ℕ, slice_index_or, Float};
 ghost use Rattle.float.specs.Bands.{none};
 ghost use Rattle.float.specs.Page.{Page, page_of};
 ghost use Rattle.float.specs.Slot.{content_at, beside_band, content_slot, content};
 
 use crate::slot::{Insets, Sought};
-use crate::{BandNumber, ContentAnswer, ContentSlot, FloatContext, Segment, ask, number};
+use crate::{ContentSlot, FloatContext, Refusal, Segment, ask, number};
 
-fn content_at(width: f32, band: BandNumber, y: f32, i: Insets) -> ContentSlot
+fn content_at(width: f32, band: Option<usize>, y: f32, i: Insets) -> ContentSlot
     ensures { (p : Page) → p.width ≡ width → result ≡ content_at p band y i }
 {
     ContentSlot {
-        band: band,
+        band,
         x: i.left,
-        y: y,
+        y,
         width: width - i.left - i.right,
     }
 }
@@ -33,48 +33,30 @@ pub fn content_slot(width: f32, s: Sought, b: Segment, cb: Insets) -> ContentSlo
     ensures { (p : Page) → p.width ≡ width → ((i : ℕ) (y : Float) → s ≡ Sought.At i y → b ≡ slice_index_or p.bands i none) → result ≡ content_slot p cb s }
 {
     match s {
-        Sought::Quiet(y) => content_at(width, BandNumber::None, y, cb),
-        Sought::Past(y) => content_at(width, BandNumber::None, y, cb),
+        Sought::Quiet(y) => content_at(width, None, y, cb),
+        Sought::Past(y) => content_at(width, None, y, cb),
         Sought::At(i, y) => {
             let at = number::larger(y, b.start);
-            content_at(width, BandNumber::At(i), at, beside_band(b, cb))
+            content_at(width, Some(i), at, beside_band(b, cb))
         }
     }
 }
 
 impl FloatContext {
-    // The bands are read where they lie: both looks stand here, and not in a function that would copy them.
     pub fn find_content_slot(
-        self,
+        &self,
         min_y: f32,
         left: f32,
         right: f32,
         clear: u8,
-        after: BandNumber,
-    ) -> ContentAnswer
-        ensures { result ≡ content (page_of self) (record { min_y = min_y; left = left; right = right; clear = clear; after = after }) }
+        after: Option<usize>,
+    ) -> Result<ContentSlot, Refusal>
+        ensures { result ≡ content (page_of self.now) (record { min_y = min_y; left = left; right = right; clear = clear; after = after }) }
     {
         let head = self.head();
-        let q = ask::content_quest(head, min_y, left, right, clear, after);
-        let n = q.n;
-        let mut i = q.from;
-        while i < n {
-            if self.bands[i].end > q.above {
-                break;
-            }
-            i += 1;
-        }
-        let mut k: usize = 0;
-        if i == n {
-            while k < n {
-                if self.bands[k].end > q.y {
-                    break;
-                }
-                k += 1;
-            }
-        }
-        let at = number::smaller_n(i, 95);
-        let b = self.bands[at];
-        ask::content_found(head, q, i, k, b, left, right)
+        let q = ask::content_quest(head, min_y, left, right, clear, after)?;
+        let (i, k) = ask::looked(q, &self.bands);
+        let b = self.bands[i.min(95)];
+        Ok(ask::content_found(head, q, i, k, b, left, right))
     }
 }

@@ -6,87 +6,52 @@ ghost use Rattle.float.specs.declared.PlacedFloatedBox.{PlacedFloatedBox as BoxO
 ghost use Rattle.float.specs.declared.Segment.{Segment as SegmentOf};
 ghost use Rattle.float.specs.Bands.{none, first_below};
 ghost use Rattle.float.specs.Head.{page_with};
-ghost use Rattle.float.specs.Hold.{room_check, head_after, refused_entry, entered_of, Admits, WalkedBack, Enters};
-ghost use Rattle.float.specs.Place.{Call, width_of};
+ghost use Rattle.float.specs.Hold.{Widens, head_after, entered_of, Admits, WalkedBack, Enters};
+ghost use Rattle.float.specs.Place.{Call};
 ghost use Rattle.float.specs.Plan.{source as source_of, shaped as shaped_of};
 ghost use Rattle.float.specs.Search.{search_from};
 
 use crate::fit::Ask;
 pub use crate::plan::Plan;
-pub use crate::refuse::Check;
-pub use crate::search::Spot;
+use crate::plan::Site;
+pub use crate::search::{Spot, look};
 use crate::{
-    Bottom, Done, FloatDirection, Head, PlaceAnswer, PlacedFloatedBox, Refusal, Segment, band,
-    clearing, number, place, plan, refuse, search,
+    FloatDirection, Head, PlacedFloatedBox, Position, Refusal, Segment, band, clearing, number,
+    place, plan, refuse, search,
 };
 
-// What is asked of a place, the number n of bands, at most 96, the first band allowed and y; where the check is passed.
+// What is asked of a place, the number n of bands, at most 96, the first band allowed and y.
 #[derive(Clone, Copy)]
 pub struct Admission {
-    pub check: Check,
     pub ask: Ask,
     pub n: usize,
     pub first: usize,
     pub y: f32,
 }
 
-// Where accepted: the answer, the head after it, the plan of the bands and the box. Else the refusal and the head as it was.
+// The position, the head after it, the plan of the bands and the box.
 #[derive(Clone, Copy)]
 pub struct Entry {
-    pub accepted: bool,
-    pub answer: PlaceAnswer,
+    pub position: Position,
     pub head: Head,
     pub plan: Plan,
     pub floated: PlacedFloatedBox,
 }
 
-// The answer of setting the width, and the head after it.
-#[derive(Clone, Copy)]
-pub struct Widening {
-    pub answer: Done,
-    pub head: Head,
-}
-
-// Sets the width of a page without boxes: refusals 2, 3 and 4.
-pub fn widen(head: Head, width: f32) -> Widening
-    ensures { (bs : List SegmentOf) (xs : List BoxOf) → length bs ≡ 96 → length xs ≡ 64 → width_of (page_with head bs xs) width ≡ record { answer = result.answer; page = page_with result.head bs xs } }
+// The head with this width, of a page without boxes: refusals 2, 3 and 4.
+pub fn widen(head: Head, width: f32) -> Result<Head, Refusal>
+    ensures { (bs : List SegmentOf) (xs : List BoxOf) → length bs ≡ 96 → length xs ≡ 64 → Widens head bs xs width result }
 {
     let w = number::plus_zero(width);
-    let check = refuse::check_size(w);
-    if let Check::Refused(n) = check {
-        return Widening {
-            answer: Done::Refused(n),
-            head,
-        };
-    }
+    refuse::check_size(w)?;
     if 0 < head.box_count {
-        return Widening {
-            answer: Done::Refused(Refusal::WidthFixed),
-            head,
-        };
+        return Err(Refusal::WidthFixed);
     }
-    let mut after = head;
-    after.width = w;
-    after.count = number::smaller_n(head.count, 96);
-    Widening {
-        answer: Done::Accepted,
-        head: after,
-    }
-}
-
-// Refusal 5, after those of the input.
-fn room_for(check: Check, boxes: usize) -> Check
-    ensures { result ≡ room_check check boxes }
-{
-    match check {
-        Check::Refused(n) => Check::Refused(n),
-        Check::Passed => {
-            if boxes < 64 {
-                return Check::Passed;
-            }
-            Check::Refused(Refusal::BoxesFull)
-        }
-    }
+    Ok(Head {
+        width: w,
+        count: head.count.min(96),
+        ..head
+    })
 }
 
 // Refusals 1, 2, 3 and 5, then rules 1 and 2.
@@ -99,7 +64,7 @@ pub fn admit(
     right: f32,
     side: u8,
     clear: u8,
-) -> Admission
+) -> Result<Admission, Refusal>
     ensures { Admits head (record { side = side; clear = clear; width = width; height = height; min_y = min_y; left = left; right = right }) result }
 {
     let w = number::plus_zero(width);
@@ -107,36 +72,22 @@ pub fn admit(
     let m = number::plus_zero(min_y);
     let l = number::plus_zero(left);
     let r = number::plus_zero(right);
-    let check = room_for(
-        refuse::check_box(side, clear, w, h, m, l, r),
-        head.box_count,
-    );
-    let n = number::smaller_n(head.count, 96);
-    let ask = place::ask_of(w, h, head.width, l, r, refuse::side_of(side));
-    let k = refuse::clear_of(clear);
-    let left_bottom = head.left_bottom;
-    let right_bottom = head.right_bottom;
-    let ceiling = head.ceiling;
-    let top = clearing::raise_to(m, ceiling);
-    let y = clearing::raise_to(top, clearing::cleared(left_bottom, right_bottom, k));
-    let first = number::larger_n(head.left_first, head.right_first);
-    Admission {
-        check: check,
-        ask: ask,
-        n: n,
-        first: first,
-        y: y,
+    let (side, clear) = refuse::check_box(side, clear, w, h, m, l, r)?;
+    if 64 <= head.box_count {
+        return Err(Refusal::BoxesFull);
     }
-}
-
-// Rules 3 and 4: where the box goes. The bands are looked at and not changed.
-pub fn look(bands: [Segment; 96], n: usize, first: usize, y: f32, ask: Ask) -> Spot
-    ensures { result ≡ search_from (take n bands) ask (first_below (take n bands) first y) y }
-{
-    search::look(bands, number::smaller_n(n, 96), first, y, ask)
+    let top = clearing::raise_to(m, head.ceiling);
+    let cleared = clearing::cleared(head.left_bottom, head.right_bottom, clear);
+    Ok(Admission {
+        ask: place::ask_of(w, h, head.width, l, r, side),
+        n: head.count.min(96),
+        first: head.left_first.max(head.right_first),
+        y: clearing::raise_to(top, cleared),
+    })
 }
 
 // Rule 7: how far the end may walk back, which past the last band it does not.
+// Kept: for a holder that walks its own bands back; `walked_back` tests this on the way.
 pub fn stop_of(n: usize, spot: Spot) -> usize
     ensures { (spot.end < n → result ≡ spot.start) × (n ≤ spot.end → result ≡ spot.end) }
 {
@@ -150,62 +101,40 @@ pub fn stop_of(n: usize, spot: Spot) -> usize
 fn head_after(head: Head, a: Ask, p: Plan) -> Head
     ensures { result ≡ head_after head a p }
 {
-    let side = a.side;
     let bottom = p.y + a.height;
-    let left_bottom = head.left_bottom;
-    let right_bottom = head.right_bottom;
-    let ceiling = head.ceiling;
-    let depth = head.depth;
-    let left = place::bottom_after(side, FloatDirection::Left, left_bottom, bottom);
-    let right = place::bottom_after(side, FloatDirection::Right, right_bottom, bottom);
-    let top = clearing::lower(ceiling, Bottom::At(p.y));
-    let deep = clearing::lower(depth, Bottom::At(bottom));
     Head {
         width: head.width,
         count: p.count,
-        box_count: number::smaller_n(head.box_count, 63) + 1,
-        left_bottom: left,
-        right_bottom: right,
-        ceiling: top,
-        depth: deep,
-        left_first: place::number_after(side, FloatDirection::Left, head.left_first, p.first),
-        right_first: place::number_after(side, FloatDirection::Right, head.right_first, p.first),
-    }
-}
-
-// A refusal keeps the head; its plan is not to be written.
-fn refused(head: Head, p: Plan, b: PlacedFloatedBox, n: Refusal) -> Entry
-    ensures { result ≡ refused_entry head p b n }
-{
-    Entry {
-        accepted: false,
-        answer: PlaceAnswer::Refused(n),
-        head: head,
-        plan: p,
-        floated: b,
+        box_count: head.box_count.min(63) + 1,
+        left_bottom: place::bottom_after(a.side, FloatDirection::Left, head.left_bottom, bottom),
+        right_bottom: place::bottom_after(a.side, FloatDirection::Right, head.right_bottom, bottom),
+        ceiling: clearing::lower(head.ceiling, Some(p.y)),
+        depth: clearing::lower(head.depth, Some(bottom)),
+        left_first: place::number_after(a.side, FloatDirection::Left, head.left_first, p.first),
+        right_first: place::number_after(a.side, FloatDirection::Right, head.right_first, p.first),
     }
 }
 
 // Refusals 6 and 7, then the answer, the box and the head after it.
-fn entered(head: Head, a: Ask, spot: Spot, p: Plan) -> Entry
+fn entered(head: Head, a: Ask, spot: Spot, p: Plan) -> Result<Entry, Refusal>
     ensures { result ≡ entered_of head a spot p }
 {
-    let b = place::box_of(a, spot.inset, p.y);
     if !place::near(a, spot.inset, p.y) {
-        return refused(head, p, b, Refusal::TooFar);
+        return Err(Refusal::TooFar);
     }
     if p.count > 96 {
-        return refused(head, p, b, Refusal::BandsFull);
+        return Err(Refusal::BandsFull);
     }
-    let answer = PlaceAnswer::At(place::x_of(a, spot.inset), p.y, spot.steps);
-    let after = head_after(head, a, p);
-    Entry {
-        accepted: true,
-        answer: answer,
-        head: after,
+    Ok(Entry {
+        position: Position {
+            x: place::x_of(a, spot.inset),
+            y: p.y,
+            steps: spot.steps,
+        },
+        head: head_after(head, a, p),
         plan: p,
-        floated: b,
-    }
+        floated: place::box_of(a, spot.inset, p.y),
+    })
 }
 
 // Rules 5 to 8 and refusals 6 and 7, as numbers: e is the end walked back; last, first and end are the bands at n - 1, at the start and at e.
@@ -217,18 +146,24 @@ pub fn enter(
     last: Segment,
     first: Segment,
     end: Segment,
-) -> Entry
-    ensures { (c : Call) (bs : List SegmentOf) (xs : List BoxOf) → length bs ≡ 96 → length xs ≡ 64 → Admits head c adm → adm.check ≡ Check.Passed → spot ≡ search_from (take adm.n bs) adm.ask (first_below (take adm.n bs) adm.first adm.y) adm.y → WalkedBack (take adm.n bs) adm.ask spot e → last ≡ slice_index_or bs (adm.n - min adm.n 1) none → first ≡ slice_index_or bs (min spot.start 95) none → end ≡ slice_index_or bs (min e 95) none → Enters bs xs head c adm.ask result }
+) -> Result<Entry, Refusal>
+    ensures { (c : Call) (bs : List SegmentOf) (xs : List BoxOf) → length bs ≡ 96 → length xs ≡ 64 → Admits head c (Ok adm) → spot ≡ search_from (take adm.n bs) adm.ask (first_below (take adm.n bs) adm.first adm.y) adm.y → WalkedBack (take adm.n bs) adm.ask spot e → last ≡ slice_index_or bs (adm.n - min adm.n 1) none → first ≡ slice_index_or bs (min spot.start 95) none → end ≡ slice_index_or bs (min e 95) none → Enters bs xs head c adm.ask result }
 {
     let a = adm.ask;
-    let n = number::smaller_n(adm.n, 96);
+    let n = adm.n.min(96);
     if a.height == 0.0 {
-        return entered(head, a, spot, plan::still(n, spot));
+        return entered(head, a, spot, Plan::still(n, spot));
     }
     let z = band::last_end(n, last);
-    let k = number::smaller_n(head.box_count, 63) as u8;
-    let p = plan::plan_of(n, z, a, spot, k, number::smaller_n(e, 95), first, end);
-    entered(head, a, spot, p)
+    let number = head.box_count.min(63) as u8;
+    let site = Site {
+        n,
+        z,
+        ask: a,
+        spot,
+        number,
+    };
+    entered(head, a, spot, site.plan(e.min(95), first, end))
 }
 
 // The old band of which the new band j is made.
@@ -249,6 +184,6 @@ pub fn shaped(p: Plan, a: Ask, j: usize, b: Segment) -> Segment
     let k = plan::unsplit(p.splits, p.last, j);
     let upper = plan::part(p.cut, p.low, p.y, k, b);
     let lower = plan::part(p.splits, p.last, p.bottom, j, upper);
-    let t = plan::filled(p, a, j, lower);
-    plan::inked(p, a, j, t)
+    let t = p.filled(a, j, lower);
+    p.inked(a, j, t)
 }

@@ -1,5 +1,5 @@
 // The float-placement module: one page of floated boxes, the calls that change it and the calls that ask it.
-// A call takes the page by value and hands it back, but `place_in` changes it where it lies; a refused call gives the page it was given.
+// `set_width_in` and `place_in` change the page where it lies, `set_width` and `place_floated_box` are these by value, and a question borrows it; a refused call leaves the page as it was.
 #![tactic(auto)]
 
 pub mod ask;
@@ -10,7 +10,6 @@ mod clearing;
 mod content;
 pub mod fit;
 pub mod hold;
-mod inplace;
 pub mod number;
 mod page;
 mod place;
@@ -21,8 +20,9 @@ mod slot;
 pub mod touch;
 
 // The side that a box floats to.
-#[derive(Clone, Copy)]
+#[derive(Clone, Copy, Default, PartialEq, Eq)]
 pub enum FloatDirection {
+    #[default]
     Left,
     Right,
 }
@@ -51,43 +51,23 @@ pub enum AvailableSpace {
     MaxContent,
 }
 
-// The reasons for which a call is refused. The paper's number of each is `number_of` in specs/Refuse.antt.
-#[derive(Clone, Copy)]
+// The reasons for which a call is refused, each with the paper's number.
+#[derive(Clone, Copy, PartialEq, Eq, Debug)]
 pub enum Refusal {
-    UnknownCode,
-    NotFinite,
-    OutOfLimits,
-    WidthFixed,
-    BoxesFull,
-    TooFar,
-    BandsFull,
-    NoCalculator,
-    NoRoom,
+    UnknownCode = 1,
+    NotFinite = 2,
+    OutOfLimits = 3,
+    WidthFixed = 4,
+    BoxesFull = 5,
+    TooFar = 6,
+    BandsFull = 7,
+    NoCalculator = 8,
+    NoRoom = 13,
 }
 
-// A height that is kept, or none yet.
-#[derive(Clone, Copy)]
-pub enum Bottom {
-    None,
-    At(f32),
-}
-
-// A band's number, or none.
-#[derive(Clone, Copy)]
-pub enum BandNumber {
-    None,
-    At(usize),
-}
-
-// The number of an accepted box, counted from 0 over both sides, or none.
-#[derive(Clone, Copy)]
-pub enum BoxNumber {
-    None,
-    At(u8),
-}
-
+// Kept: a mark stands apart from its box's number, since on a page made by hand each may stand alone (`recorded_on`), and left and right apart, as the definitions name them (`on_side`).
 // A band of the page: where it starts and ends, how far its two sides are taken, whether a float stands there, and which box was recorded there last.
-#[derive(Clone, Copy)]
+#[derive(Clone, Copy, Default)]
 pub struct Segment {
     pub start: f32,
     pub end: f32,
@@ -95,12 +75,12 @@ pub struct Segment {
     pub right: f32,
     pub left_float: bool,
     pub right_float: bool,
-    pub left_box: BoxNumber,
-    pub right_box: BoxNumber,
+    pub left_box: Option<u8>,
+    pub right_box: Option<u8>,
 }
 
 // An accepted box. Its inset is measured from the edge that it floats to.
-#[derive(Clone, Copy)]
+#[derive(Clone, Copy, Default)]
 pub struct PlacedFloatedBox {
     pub width: f32,
     pub height: f32,
@@ -109,6 +89,7 @@ pub struct PlacedFloatedBox {
     pub side: FloatDirection,
 }
 
+// Kept: arrays with a count beside them, since there is no heap; what is kept of each side stands apart, as `Page` has it.
 // A page: its bands from top to bottom, its boxes in the order of acceptance, and what is kept of them.
 #[derive(Clone, Copy)]
 pub struct FloatContext {
@@ -117,56 +98,52 @@ pub struct FloatContext {
     pub count: usize,
     pub boxes: [PlacedFloatedBox; 64],
     pub box_count: usize,
-    pub left_bottom: Bottom,
-    pub right_bottom: Bottom,
-    pub ceiling: Bottom,
-    pub depth: Bottom,
+    pub left_bottom: Option<f32>,
+    pub right_bottom: Option<f32>,
+    pub ceiling: Option<f32>,
+    pub depth: Option<f32>,
     pub left_first: usize,
     pub right_first: usize,
 }
 
 // A page without its two arrays, for a holder that keeps those where they lie.
-#[derive(Clone, Copy)]
+#[derive(Clone, Copy, Default)]
 pub struct Head {
     pub width: f32,
     pub count: usize,
     pub box_count: usize,
-    pub left_bottom: Bottom,
-    pub right_bottom: Bottom,
-    pub ceiling: Bottom,
-    pub depth: Bottom,
+    pub left_bottom: Option<f32>,
+    pub right_bottom: Option<f32>,
+    pub ceiling: Option<f32>,
+    pub depth: Option<f32>,
     pub left_first: usize,
     pub right_first: usize,
 }
 
-// A placement's answer: x, y and the step count, or the refusal.
+// Where a box was placed, and the step count.
 #[derive(Clone, Copy)]
-pub enum PlaceAnswer {
-    At(f32, f32, usize),
-    Refused(Refusal),
+pub struct Position {
+    pub x: f32,
+    pub y: f32,
+    pub steps: usize,
 }
 
+// Kept: an answer and the page after it, of a call by value; a refusal hands back the very page (`place_of`). So with `Widened` (`width_of`) and `Added` (`add_of`).
 // A placement's answer and the page after it.
 #[derive(Clone, Copy)]
 pub struct Placed {
-    pub answer: PlaceAnswer,
+    pub answer: Result<Position, Refusal>,
     pub page: FloatContext,
-}
-
-// What a call that gives no number answers.
-#[derive(Clone, Copy)]
-pub enum Done {
-    Accepted,
-    Refused(Refusal),
 }
 
 // The answer of setting the width, and the page after it.
 #[derive(Clone, Copy)]
 pub struct Widened {
-    pub answer: Done,
+    pub answer: Result<(), Refusal>,
     pub page: FloatContext,
 }
 
+// Kept: an array with a count, since there is no heap.
 // The boxes of one side, in the order of acceptance, at the front of the array.
 #[derive(Clone, Copy)]
 pub struct FloatList {
@@ -174,56 +151,23 @@ pub struct FloatList {
     pub count: usize,
 }
 
-// The answer to a question of yes or no.
-#[derive(Clone, Copy)]
-pub enum YesNo {
-    Answer(bool),
-    Refused(Refusal),
-}
-
-// The lowest bottom that a clear asks for, if any.
-#[derive(Clone, Copy)]
-pub enum Threshold {
-    Answer(Bottom),
-    Refused(Refusal),
-}
-
-// The box that stands innermost in a band on one side, if any.
-#[derive(Clone, Copy)]
-pub enum Innermost {
-    Answer(BoxNumber),
-    Refused(Refusal),
-}
-
 // Where content goes beside the floats.
 #[derive(Clone, Copy)]
 pub struct ContentSlot {
-    pub band: BandNumber,
+    pub band: Option<usize>,
     pub x: f32,
     pub y: f32,
     pub width: f32,
 }
 
-#[derive(Clone, Copy)]
-pub enum ContentAnswer {
-    Slot(ContentSlot),
-    Refused(Refusal),
-}
-
 // Where a box with a formatting context of its own goes beside the floats.
 #[derive(Clone, Copy)]
 pub struct BfcSlot {
-    pub band: BandNumber,
+    pub band: Option<usize>,
     pub x: f32,
     pub y: f32,
     pub border_width: f32,
     pub stretch_width: f32,
-}
-
-#[derive(Clone, Copy)]
-pub enum BfcAnswer {
-    Slot(BfcSlot),
-    Refused(Refusal),
 }
 
 // The running sums of a row of floats: what is asked, the sum of each side, the largest total and the widest box.
@@ -236,15 +180,9 @@ pub struct FloatIntrinsicWidthCalculator {
     pub widest: f32,
 }
 
-#[derive(Clone, Copy)]
-pub enum CalculatorAnswer {
-    Started(FloatIntrinsicWidthCalculator),
-    Refused(Refusal),
-}
-
 // The answer of adding a float, and the calculator after it.
 #[derive(Clone, Copy)]
 pub struct Added {
-    pub answer: Done,
+    pub answer: Result<(), Refusal>,
     pub calculator: FloatIntrinsicWidthCalculator,
 }

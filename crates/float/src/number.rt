@@ -1,5 +1,5 @@
 // Leaves on numbers: the larger and the smaller of two, plus zero for minus zero, and the table of limits.
-ghost use Rattle.std.specs.Prelude.{◌≡◌, min, max};
+ghost use Rattle.std.specs.Prelude.{◌≡◌};
 ghost use Rattle.f32_laws.specs.Numbers.{larger as larger_of, smaller as smaller_of, «zero+»};
 ghost use Rattle.float.specs.Numbers.{most, least, plus_zero, finite as finite_of, within, in_reach};
 
@@ -12,6 +12,7 @@ pub const LEAST: f32 = -65536.0;
 // The most that a bottom, a placed inset plus width or a calculator's sum may be.
 pub const FARTHEST: f32 = 131072.0;
 
+// Kept: these two and no `max` or `min`, since the definitions (`f32_laws`) say which is answered of two equal numbers and of a NaN.
 pub fn larger(a: f32, b: f32) -> f32
     ensures { result ≡ larger_of a b }
 {
@@ -22,18 +23,6 @@ pub fn smaller(a: f32, b: f32) -> f32
     ensures { result ≡ smaller_of a b }
 {
     if b < a { b } else { a }
-}
-
-pub(crate) fn larger_n(a: usize, b: usize) -> usize
-    ensures { result ≡ max a b }
-{
-    if b < a { a } else { b }
-}
-
-pub(crate) fn smaller_n(a: usize, b: usize) -> usize
-    ensures { result ≡ min a b }
-{
-    if a < b { a } else { b }
 }
 
 // A minus zero handed in is read as plus zero.
@@ -51,6 +40,7 @@ pub fn finite(x: f32) -> bool
     (-infinity < x) & (x < infinity)
 }
 
+// Kept: two tests in a line each; one over its bounds would need both at each call.
 // Refusal 3 for widths, heights and insets.
 pub fn size_allowed(x: f32) -> bool
     ensures { result ≡ within «zero+» most x }

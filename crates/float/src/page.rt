@@ -1,78 +1,25 @@
 // A fresh page, and what a page tells of its boxes.
-ghost use Rattle.std.specs.Prelude.{◌≡◌, ◌≤◌, length, take};
-ghost use Rattle.float.specs.Bands.{bare, same_side};
-ghost use Rattle.float.specs.Page.{fresh_context, page_of, no_box};
+ghost use Rattle.std.specs.Prelude.{◌≡◌, ◌≤◌, length};
+ghost use Rattle.float.specs.Head.{head_of};
+ghost use Rattle.float.specs.Page.{fresh_context, page_of};
 ghost use Rattle.float.specs.Slot.{has_floats, depth_of, floats_of, list_of, of_side};
-ghost use Rattle.f32_laws.specs.Numbers.{«zero+»};
 
-use crate::{
-    Bottom, BoxNumber, FloatContext, FloatDirection, FloatList, PlacedFloatedBox, Segment, number,
-};
+use crate::{FloatContext, FloatDirection, FloatList, Head, PlacedFloatedBox, Segment};
 
-fn no_band() -> Segment
-    ensures { result ≡ bare «zero+» «zero+» «zero+» «zero+» }
+// The boxes of the side d, in their order.
+fn of_side(boxes: &[PlacedFloatedBox], d: FloatDirection) -> FloatList
+    requires { length boxes.now ≤ 64 }
+    ensures { result ≡ list_of (of_side d boxes.now) }
 {
-    Segment {
-        start: 0.0,
-        end: 0.0,
-        left: 0.0,
-        right: 0.0,
-        left_float: false,
-        right_float: false,
-        left_box: BoxNumber::None,
-        right_box: BoxNumber::None,
-    }
-}
-
-fn no_box() -> PlacedFloatedBox
-    ensures { result ≡ no_box }
-{
-    PlacedFloatedBox {
-        width: 0.0,
-        height: 0.0,
-        x_inset: 0.0,
-        y: 0.0,
-        side: FloatDirection::Left,
-    }
-}
-
-pub fn same_side(a: FloatDirection, b: FloatDirection) -> bool
-    ensures { result ≡ same_side a b }
-{
-    match a {
-        FloatDirection::Left => match b {
-            FloatDirection::Left => true,
-            FloatDirection::Right => false,
-        },
-        FloatDirection::Right => match b {
-            FloatDirection::Left => false,
-            FloatDirection::Right => true,
-        },
-    }
-}
-
-// The boxes of the side d among the first n.
-fn of_side(boxes: [PlacedFloatedBox; 64], n: usize, d: FloatDirection) -> FloatList
-    requires { n ≤ 64 }
-    ensures { result ≡ list_of (of_side d (take n boxes)) }
-{
-    let b = no_box();
-    let mut out = [b; 64];
-    let mut count: usize = 0;
-    let mut i: usize = 0;
-    while i < n {
-        let x = boxes[i];
-        let s = x.side;
-        if same_side(d, s) {
-            out[count] = x;
+    let mut out = [PlacedFloatedBox::default(); 64];
+    let mut count = 0;
+    for b in boxes {
+        if b.side == d {
+            out[count] = *b;
             count += 1;
         }
-        i += 1;
     }
-    FloatList {
-        boxes: out,
-        count: count,
-    }
+    FloatList { boxes: out, count }
 }
 
 impl FloatContext {
@@ -80,60 +27,78 @@ impl FloatContext {
     pub fn new() -> Self
         ensures { result ≡ fresh_context }
     {
-        let s = no_band();
-        let b = no_box();
-        let bands = [s; 96];
-        let boxes = [b; 64];
         FloatContext {
             width: 0.0,
-            bands: bands,
+            bands: [Segment::default(); 96],
             count: 0,
-            boxes: boxes,
+            boxes: [PlacedFloatedBox::default(); 64],
             box_count: 0,
-            left_bottom: Bottom::None,
-            right_bottom: Bottom::None,
-            ceiling: Bottom::None,
-            depth: Bottom::None,
+            left_bottom: None,
+            right_bottom: None,
+            ceiling: None,
+            depth: None,
             left_first: 0,
             right_first: 0,
         }
     }
 
+    // Kept: field by field, here and in `set_head`, since a head is a struct of its own that holders keep.
+    // The page without its arrays.
+    pub fn head(&self) -> Head
+        ensures { result ≡ head_of self.now }
+    {
+        Head {
+            width: self.width,
+            count: self.count,
+            box_count: self.box_count,
+            left_bottom: self.left_bottom,
+            right_bottom: self.right_bottom,
+            ceiling: self.ceiling,
+            depth: self.depth,
+            left_first: self.left_first,
+            right_first: self.right_first,
+        }
+    }
+
+    // Its bands: of a page made by hand that counts more than there are, all.
+    pub(crate) fn live(&self) -> &[Segment]
+        ensures { result.now ≡ (page_of self.now).bands }
+    {
+        &self.bands[..self.count.min(96)]
+    }
+
     // Whether a box was accepted.
-    pub fn has_floats(self) -> bool
-        ensures { result ≡ has_floats (page_of self) }
+    pub fn has_floats(&self) -> bool
+        ensures { result ≡ has_floats (page_of self.now) }
     {
         0 < self.box_count
     }
 
     // The largest bottom of the accepted boxes, none where there is none.
-    pub fn depth(self) -> Bottom
-        ensures { result ≡ depth_of (page_of self) }
+    pub fn depth(&self) -> Option<f32>
+        ensures { result ≡ depth_of (page_of self.now) }
     {
         self.depth
     }
 
-    // The accepted boxes of the left side.
-    pub fn left_floats(self) -> FloatList
-        ensures { result ≡ floats_of FloatDirection.Left (page_of self) }
+    fn floats(&self, side: FloatDirection) -> FloatList
+        ensures { result ≡ floats_of side (page_of self.now) }
     {
-        let b = self.boxes;
-        of_side(
-            b,
-            number::smaller_n(self.box_count, 64),
-            FloatDirection::Left,
-        )
+        of_side(&self.boxes[..self.box_count.min(64)], side)
+    }
+
+    // Kept: both names are taffy's.
+    // The accepted boxes of the left side.
+    pub fn left_floats(&self) -> FloatList
+        ensures { result ≡ floats_of FloatDirection.Left (page_of self.now) }
+    {
+        self.floats(FloatDirection::Left)
     }
 
     // The accepted boxes of the right side.
-    pub fn right_floats(self) -> FloatList
-        ensures { result ≡ floats_of FloatDirection.Right (page_of self) }
+    pub fn right_floats(&self) -> FloatList
+        ensures { result ≡ floats_of FloatDirection.Right (page_of self.now) }
     {
-        let b = self.boxes;
-        of_side(
-            b,
-            number::smaller_n(self.box_count, 64),
-            FloatDirection::Right,
-        )
+        self.floats(FloatDirection::Right)
     }
 }

@@ -6,7 +6,7 @@ ghost use Rattle.float.specs.Fit.{fits as fits_of};
 ghost use Rattle.float.specs.Search.{joined as joined_of, opened as opened_of, taller as taller_of, search_from};
 
 use crate::fit::Ask;
-use crate::{FloatDirection, Segment, fit, number};
+use crate::{FloatDirection, Segment, band, fit, number};
 
 // The joined insets and the counted height.
 #[derive(Clone, Copy)]
@@ -26,6 +26,7 @@ pub struct Spot {
     pub steps: usize,
 }
 
+// Kept: lead and trail are a match each; one made of the other needs the other side first.
 pub fn lead_of(side: FloatDirection, b: Segment) -> f32
     ensures { result ≡ lead_of side b }
 {
@@ -47,20 +48,17 @@ pub fn trail_of(side: FloatDirection, b: Segment) -> f32
 fn start_fits(a: Ask, b: Segment) -> bool
     ensures { result ≡ fits_of a (lead_of a.side b) (trail_of a.side b) }
 {
-    let side = a.side;
-    fit::fits(a, lead_of(side, b), trail_of(side, b))
+    fit::fits(a, lead_of(a.side, b), trail_of(a.side, b))
 }
 
 // The larger of each inset.
 fn joined(side: FloatDirection, j: Reach, b: Segment) -> Reach
     ensures { result ≡ joined_of side j b }
 {
-    let lead = number::larger(j.lead, lead_of(side, b));
-    let trail = number::larger(j.trail, trail_of(side, b));
     Reach {
-        lead,
-        trail,
-        height: j.height,
+        lead: number::larger(j.lead, lead_of(side, b)),
+        trail: number::larger(j.trail, trail_of(side, b)),
+        ..j
     }
 }
 
@@ -88,11 +86,7 @@ fn taller(j: Reach, b: Segment, same: bool) -> Reach
         return j;
     }
     let height = j.height + std::num::f32_to_f64_with_nan(b.end - b.start);
-    Reach {
-        lead: j.lead,
-        trail: j.trail,
-        height,
-    }
+    Reach { height, ..j }
 }
 
 fn tall(a: Ask, j: Reach) -> bool
@@ -101,19 +95,12 @@ fn tall(a: Ask, j: Reach) -> bool
     std::num::f32_to_f64_with_nan(a.height) <= j.height
 }
 
-// Rules 3 and 4 for the bands from f on, in one function so that the bands are handed over once. A start that is given up leaves the end where it was.
-pub fn look(bands: [Segment; 96], n: usize, f: usize, min_y: f32, ask: Ask) -> Spot
-    requires { n ≤ 96 }
-    ensures { result ≡ search_from (take n bands) ask (first_below (take n bands) f min_y) min_y }
+// Rules 3 and 4: where the box goes, among the bands from f on, which are looked at and not changed. A start that is given up leaves the end where it was.
+pub fn look(bands: &[Segment], f: usize, min_y: f32, ask: Ask) -> Spot
+    ensures { result ≡ search_from bands.now ask (first_below bands.now f min_y) min_y }
 {
-    let side = ask.side;
-    let mut first = number::smaller_n(f, n);
-    while first < n {
-        if bands[first].end > min_y {
-            break;
-        }
-        first += 1;
-    }
+    let n = bands.len();
+    let first = band::first_below(bands, f, min_y);
     let mut start = first;
     let mut end = first;
     let mut y = min_y;
@@ -131,12 +118,12 @@ pub fn look(bands: [Segment; 96], n: usize, f: usize, min_y: f32, ask: Ask) -> S
         let s = bands[start];
         if !start_fits(ask, s) {
             start += 1;
-            end = number::larger_n(end, start);
+            end = end.max(start);
             steps += 1; // a start is given up
             continue 'outer;
         }
         y = number::larger(y, s.start);
-        let mut reach = opened(side, s, y);
+        let mut reach = opened(ask.side, s, y);
         loop {
             if end >= n {
                 let inset = fit::placed_at(ask, reach.lead);
@@ -149,10 +136,10 @@ pub fn look(bands: [Segment; 96], n: usize, f: usize, min_y: f32, ask: Ask) -> S
                 };
             }
             let b = bands[end];
-            reach = joined(side, reach, b);
+            reach = joined(ask.side, reach, b);
             if !fit::fits(ask, reach.lead, reach.trail) {
                 start += 1;
-                end = number::larger_n(end, start);
+                end = end.max(start);
                 steps += 1; // a start is given up
                 continue 'outer;
             }

@@ -1,9 +1,8 @@
 -- Document 01's twelve marked examples and its tape as one table, with the boxes that their bands name (1/14), how deep their pages are (3/14) and words set around their boxes (4/14). That the definitions give every figure in it is proved in proofs/Examples.antt.
-use Rattle.std.specs.Prelude.{ℕ, Bool, true, false, ◌&&◌, cond, ℤ, pos, negsuc, eqb, length, take, replicate, Float}
+use Rattle.std.specs.Prelude.{ℕ, Bool, true, false, ◌&&◌, cond, ℤ, pos, negsuc, eqb, length, take, replicate, Float, Some, None}
 use mathlib.Core.List.{List, [], ◌∷◌, ◌++◌, map}
 use Rattle.std.specs.Float.{binary32, nan}
 use Rattle.std.specs.Float.Ieee.{of_bits, of_int, neg, to_bits}
-use Rattle.float.specs.declared.BandNumber.{BandNumber}
 use Rattle.float.specs.declared.FloatContext.{FloatContext}
 use Rattle.float.specs.Answers.{Value, float, count, truth, missing, Said, refused, values, said_place, said_done, said_content, said_depth, said_innermost}
 use Rattle.float.specs.Page.{page_of, fresh_context}
@@ -64,7 +63,7 @@ returned (negsuc k) = 1 ∷ k ∷ []
 
 -- the box that stands innermost in the band i on the side d (1/14)
 abbrev pub touches : FloatContext → ℕ → ℕ → Said → Bool
-touches p i d s = same (told (said_innermost (innermost (page_of p) (BandNumber.At i) d))) (told s)
+touches p i d s = same (told (said_innermost (innermost (page_of p) (Some i) d))) (told s)
 
 -- ---- the table run from a page on: every entry must give what it says
 unfoldable pub holds : List Entry → FloatContext → Bool
@@ -101,7 +100,7 @@ down y = deep (float (n y))
 
 -- a content question at y with a clear: band, x, y, width
 abbrev pub ask : ℕ → ℕ → Value → ℕ → ℕ → ℕ → Entry
-ask y clear i x y' w = slot (record { min_y = n y; left = n 0; right = n 0; clear = clear; after = BandNumber.None }) (values (i ∷ float (n x) ∷ float (n y') ∷ float (n w) ∷ []))
+ask y clear i x y' w = slot (record { min_y = n y; left = n 0; right = n 0; clear = clear; after = None }) (values (i ∷ float (n x) ∷ float (n y') ∷ float (n w) ∷ []))
 
 -- words of these widths (4/14), gap, line height, min_y and insets; a line is x, y, its first word and its count
 abbrev pub words : List ℕ → ℕ → ℕ → ℕ → ℕ → ℕ → Said → Entry

@@ -16,7 +16,7 @@ use float::{FloatContext, FloatDirection};
 fn byte(b: bool) -> u8
     ensures { result ≡ bit b }
 {
-    if b { 1 } else { 0 }
+    b as u8
 }
 
 #[unsafe(no_mangle)]
@@ -81,40 +81,29 @@ pub extern "C" fn probe_fits(
 ) -> u8
     ensures { result ≡ fits_at side width page band_left band_right inset_left inset_right }
 {
-    match side {
-        0 => {
-            let a = Ask {
-                width: width,
-                height: width,
-                page: page,
-                cb_lead: inset_left,
-                cb_trail: inset_right,
-                side: FloatDirection::Left,
-            };
-            byte(float::fit::fits(a, band_left, band_right))
-        }
-        1 => {
-            let a = Ask {
-                width: width,
-                height: width,
-                page: page,
-                cb_lead: inset_right,
-                cb_trail: inset_left,
-                side: FloatDirection::Right,
-            };
-            byte(float::fit::fits(a, band_right, band_left))
-        }
-        _ => 2,
-    }
+    let Ok(side) = FloatDirection::try_from(side) else {
+        return 2;
+    };
+    let (lead, trail, cb_lead, cb_trail) = match side {
+        FloatDirection::Left => (band_left, band_right, inset_left, inset_right),
+        FloatDirection::Right => (band_right, band_left, inset_right, inset_left),
+    };
+    let a = Ask {
+        width,
+        height: width,
+        page,
+        cb_lead,
+        cb_trail,
+        side,
+    };
+    byte(float::fit::fits(a, lead, trail))
 }
 
 // A fresh page of this width.
 fn fresh(wide: f32) -> FloatContext
     ensures { result ≡ (width_of fresh_context wide).page }
 {
-    let page = FloatContext::new();
-    let widened = page.set_width(wide);
-    widened.page
+    FloatContext::new().set_width(wide).page
 }
 
 // How far down the box `which` of a page stands, 0 if there is none.
@@ -142,28 +131,24 @@ pub extern "C" fn probe_kept(
 {
     let mut page = fresh(wide);
     let mut top: f32 = 0.0;
-    let mut i: usize = 0;
-    while i < count {
-        let placed = page.place_floated_box(width, height, top, 0.0, 0.0, side, 0);
-        let after = placed.page;
-        page = after;
-        top = top + step;
-        i += 1;
+    for _ in 0..count {
+        page = page
+            .place_floated_box(width, height, top, 0.0, 0.0, side, 0)
+            .page;
+        top += step;
     }
     top_of(page, which)
 }
 
-// The page after such placements by `place_in`: it stays where it lies.
+// The page after such placements by `place_in`: it stays where it lies. A box that is refused is passed over: the page stays as it was.
 fn page_in(count: usize, wide: f32, side: u8, width: f32, height: f32, step: f32) -> FloatContext
     ensures { result ≡ page_after wide side width height step count }
 {
     let mut page = fresh(wide);
     let mut top: f32 = 0.0;
-    let mut i: usize = 0;
-    while i < count {
-        page.place_in(width, height, top, 0.0, 0.0, side, 0);
-        top = top + step;
-        i += 1;
+    for _ in 0..count {
+        let _ = page.place_in(width, height, top, 0.0, 0.0, side, 0);
+        top += step;
     }
     page
 }

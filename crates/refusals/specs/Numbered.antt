@@ -1,10 +1,9 @@
 -- The paper's table "Numbered no", row by row, over every call that can be refused. Definitions only.
-use Rattle.std.specs.Prelude.{ℕ, ◌≤◌, ◌<◌, ◌≡◌, ◌≢◌, Bool, not, cond, List, [], ◌∷◌, T, Float, length}
+use Rattle.std.specs.Prelude.{ℕ, ◌≤◌, ◌<◌, ◌≡◌, ◌≢◌, Bool, not, cond, List, [], ◌∷◌, T, Float, length, Option, Some, None}
 use Rattle.std.specs.Float.{binary32}
 use Rattle.std.specs.Float.Ieee.{add, le, eq}
 use Rattle.f32_laws.specs.Numbers.{zero+}
 use Rattle.float.specs.declared.AvailableSpace.{AvailableSpace}
-use Rattle.float.specs.declared.BandNumber.{BandNumber}
 use Rattle.float.specs.declared.FloatDirection.{FloatDirection}
 use Rattle.float.specs.declared.FloatIntrinsicWidthCalculator.{FloatIntrinsicWidthCalculator}
 use Rattle.float.specs.Numbers.{farthest, plus_zero, Given, size, offset}
@@ -13,10 +12,8 @@ use Rattle.float.specs.Page.{Page}
 use Rattle.float.specs.Place.{Call, cleaned, ask_of, spot_of, Made, make}
 use Rattle.float.specs.Slot.{ContentCall, BfcCall}
 use Rattle.float.specs.Calculator.{zeroed, plus_on}
-use Rattle.demands.specs.Runs.{Some}
+use Rattle.demands.specs.Runs.{Any}
 use Rattle.demands.specs.Rows.{NotFinite, Outside}
-use Rattle.tape.specs.declared.record.Mode.{Mode}
-use Rattle.tape.specs.declared.step.Calculator.{Calculator}
 use Rattle.tape.specs.Tape.{lines_of}
 
 -- What can be asked, as it is handed in. Of a page: a width, has_active_floats at a min_y, a box, the two slot questions, cleared_threshold of a clear, innermost of a band and a side.
@@ -27,8 +24,8 @@ pub data Asked : Type 0 where
   content : ContentCall → Asked
   bfc : BfcCall → Asked
   threshold : ℕ → Asked
-  innermost : BandNumber → ℕ → Asked
-  start : Mode → Asked
+  innermost : Option ℕ → ℕ → Asked
+  start : Option AvailableSpace → Asked
   add_box : Float → ℕ → ℕ → Asked
   result : Asked
   lines : List ℕ → List ℕ → Asked
@@ -46,10 +43,10 @@ handed (content c) = record { codes = (c.clear, 4) ∷ []; numbers = offset c.mi
 handed (bfc c) = record { codes = (c.direction, 2) ∷ (c.clear, 4) ∷ []; numbers = offset c.min_y ∷ size c.left ∷ size c.right ∷ offset c.left_margin ∷ offset c.right_margin ∷ [] }
 handed (threshold k) = record { codes = (k, 4) ∷ []; numbers = [] }
 handed (innermost i s) = record { codes = (s, 2) ∷ []; numbers = [] }
-handed (start (Mode.Known (AvailableSpace.Definite w))) = record { codes = []; numbers = size w ∷ [] }
-handed (start (Mode.Known AvailableSpace.MinContent)) = record { codes = []; numbers = [] }
-handed (start (Mode.Known AvailableSpace.MaxContent)) = record { codes = []; numbers = [] }
-handed (start Mode.Unknown) = record { codes = (3, 3) ∷ []; numbers = [] }
+handed (start (Some (AvailableSpace.Definite w))) = record { codes = []; numbers = size w ∷ [] }
+handed (start (Some AvailableSpace.MinContent)) = record { codes = []; numbers = [] }
+handed (start (Some AvailableSpace.MaxContent)) = record { codes = []; numbers = [] }
+handed (start None) = record { codes = (3, 3) ∷ []; numbers = [] }
 handed (add_box w s k) = record { codes = (s, 2) ∷ (k, 4) ∷ []; numbers = size w ∷ [] }
 handed result = record { codes = []; numbers = [] }
 handed (lines t a) = record { codes = []; numbers = [] }
@@ -82,17 +79,17 @@ sums c w s k =
     l ∷ r ∷ add binary32 l r ∷ []
 
 -- the table: what is asked on the page p with the calculator q, and the numbers that apply to it
-pub data Applies (p : Page) (q : Calculator) : Asked → ℕ → Type 0 where
-  unknown_code : {a : Asked} → Some Unknown (handed a).codes → Applies p q a 1
-  not_finite : {a : Asked} → Some NotFinite (handed a).numbers → Applies p q a 2
-  out_of_limits : {a : Asked} → Some Outside (handed a).numbers → Applies p q a 3
+pub data Applies (p : Page) (q : Option FloatIntrinsicWidthCalculator) : Asked → ℕ → Type 0 where
+  unknown_code : {a : Asked} → Any Unknown (handed a).codes → Applies p q a 1
+  not_finite : {a : Asked} → Any NotFinite (handed a).numbers → Applies p q a 2
+  out_of_limits : {a : Asked} → Any Outside (handed a).numbers → Applies p q a 3
   width_fixed : {w : Float} → 0 < length p.boxes → Applies p q (width w) 4
   boxes_full : {c : Call} → 64 ≤ length p.boxes → Applies p q (box c) 5
-  too_far : {c : Call} → Some Passes (add binary32 (y_of p c) (cleaned c).height ∷ add binary32 (spot_of p (cleaned c)).inset (cleaned c).width ∷ []) → Applies p q (box c) 6
-  sums_too_far : {w : Float} {s k : ℕ} (c : FloatIntrinsicWidthCalculator) → q ≡ Calculator.One c → c.available ≢ AvailableSpace.MinContent → Some Passes (sums c w s k) → Applies p q (add_box w s k) 6
+  too_far : {c : Call} → Any Passes (add binary32 (y_of p c) (cleaned c).height ∷ add binary32 (spot_of p (cleaned c)).inset (cleaned c).width ∷ []) → Applies p q (box c) 6
+  sums_too_far : {w : Float} {s k : ℕ} (c : FloatIntrinsicWidthCalculator) → q ≡ Some c → c.available ≢ AvailableSpace.MinContent → Any Passes (sums c w s k) → Applies p q (add_box w s k) 6
   bands_full : {c : Call} → T (has_height c) → 96 < length (made_of p c).bands → Applies p q (box c) 7
-  none_to_add_to : {w : Float} {s k : ℕ} → q ≡ Calculator.None → Applies p q (add_box w s k) 8
-  none_to_ask : q ≡ Calculator.None → Applies p q result 8
+  none_to_add_to : {w : Float} {s k : ℕ} → q ≡ None → Applies p q (add_box w s k) 8
+  none_to_ask : q ≡ None → Applies p q result 8
   no_room : {t a : List ℕ} → length a < length (lines_of t) → Applies p q (lines t a) 13
 
 -- of several, the lowest

@@ -18,13 +18,8 @@ enum NoPart {
     Cut,
 }
 
-fn wide(b: u8) -> usize
-    ensures { result ≤ 255 }
-{
-    b as usize
-}
-
 // Reads up to the end of the room, of the input, or to a read that fails, and answers how many bytes came.
+// Kept: `bulameki` has to say why a read fails, and this takes it as the input's end.
 fn read_full<R: Read>(from: &mut R, room: &mut [u8]) -> usize
     ensures { result ≤ length room.new }
 {
@@ -50,7 +45,7 @@ fn read_part<R: Read>(from: &mut R, part: &mut [u8]) -> Result<usize, NoPart>
     if got < 2 {
         return Err(NoPart::Cut);
     }
-    let n = part.len().min(wide(head[0]) + 256 * wide(head[1]));
+    let n = part.len().min(u16::from_le_bytes(head) as usize);
     if read_full(from, &mut part[..n]) < n {
         return Err(NoPart::Cut);
     }
@@ -69,99 +64,34 @@ fn agrees(tape: &[u8], lines: &[u8], room: &mut [u8]) -> bool
     check::same(&room[..n], lines)
 }
 
-// What the next tape and its lines are.
-#[derive(Clone, Copy)]
-enum Pair {
-    Agrees,
-    Differs,
-    End,
-    Cut,
-}
-
-fn replay<R: Read>(from: &mut R) -> Pair {
+// Whether the next tape agrees with its lines.
+fn replay<R: Read>(from: &mut R) -> Result<bool, NoPart> {
     let mut tape = [0u8; PART];
-    let n = match read_part(from, &mut tape) {
-        Ok(n) => n,
-        Err(NoPart::End) => return Pair::End,
-        Err(NoPart::Cut) => return Pair::Cut,
-    };
+    let n = read_part(from, &mut tape)?;
     let mut lines = [0u8; PART];
-    let Ok(k) = read_part(from, &mut lines) else {
-        return Pair::Cut;
-    };
+    let k = read_part(from, &mut lines).map_err(|_| NoPart::Cut)?;
     let mut room = [0u8; PART];
-    if agrees(&tape[..n], &lines[..k], &mut room) {
-        Pair::Agrees
-    } else {
-        Pair::Differs
-    }
+    Ok(agrees(&tape[..n], &lines[..k], &mut room))
 }
 
-#[derive(Clone, Copy)]
-struct Tally {
-    tapes: u64,
-    differ: u64,
-    more: bool,
-}
-
-fn counted(t: Tally, differ: u64) -> Tally {
-    Tally {
-        tapes: t.tapes.wrapping_add(1),
-        differ: t.differ.wrapping_add(differ),
-        more: true,
-    }
-}
-
-// A write that fails is passed over; so with the next one.
-fn print_word(rt: &impl Print, word: &str) {
-    let _ = rt.print(word);
-}
-
-fn print_count(rt: &impl Print, n: u64, what: &str) {
-    let _ = rt.print(n);
-    print_word(rt, what);
-}
-
-fn next(rt: &HostRuntime, t: Tally) -> Tally {
-    let pair = replay(&mut rt.stdin());
-    match pair {
-        Pair::Agrees => counted(t, 0),
-        Pair::Differs => {
-            print_word(rt, "tape ");
-            print_count(rt, t.tapes, " differs\n");
-            counted(t, 1)
-        }
-        Pair::Cut => {
-            print_word(rt, "tape ");
-            print_count(rt, t.tapes, " breaks off\n");
-            Tally {
-                tapes: t.tapes,
-                differ: t.differ,
-                more: false,
-            }
-        }
-        Pair::End => {
-            print_count(rt, t.tapes, " tapes, ");
-            print_count(rt, t.differ, " differ\n");
-            Tally {
-                tapes: t.tapes,
-                differ: t.differ,
-                more: false,
-            }
-        }
-    }
-}
-
-// Nothing says that an input ends, so the turns are counted down from a number that no run uses up.
+// Nothing says that an input ends, so the turns are counted down from a number that no run uses up. A write that fails is passed over.
 fn main(rt: HostRuntime) {
-    let mut tally = Tally {
-        tapes: 0,
-        differ: 0,
-        more: true,
-    };
-    let mut turns = u64::MAX;
-    while turns > 0 && tally.more {
-        tally = next(&rt, tally);
-        turns -= 1;
+    let mut differ: u64 = 0;
+    for tapes in 0..u64::MAX {
+        match replay(&mut rt.stdin()) {
+            Ok(true) => {}
+            Ok(false) => {
+                let _ = println!(rt; "tape {tapes} differs");
+                differ = differ.wrapping_add(1);
+            }
+            Err(NoPart::Cut) => {
+                let _ = println!(rt; "tape {tapes} breaks off");
+                return;
+            }
+            Err(NoPart::End) => {
+                let _ = println!(rt; "{tapes} tapes, {differ} differ");
+                return;
+            }
+        }
     }
 }

@@ -1,9 +1,9 @@
 -- Digits put from the back, and how many decimals a number has.
-use Prim.Native.Nat.{ℕ, zero, suc, ◌+◌, ◌-◌, ◌/◌, ◌%◌, ◌^◌, ◌≤◌, ◌<◌}
+use Prim.Native.Nat.{ℕ, zero, suc, ◌+◌, ◌-◌, ◌*◌, ◌/◌, ◌%◌, ◌^◌, ◌≤◌, ◌<◌}
 use mathlib.Core.Bool.{Bool, true, false}
 use mathlib.Core.Path.{◌≡◌, refl, sym, ap, ◌∙◌}
-use mathlib.Core.List.{List, [], ◌∷◌, ◌++◌, append-nil, append_assoc}
-use native.Mathlib.Nat.{add-zero, add-suc, sub_self, sub-zero, pow-suc}
+use mathlib.Core.List.{List, [], ◌∷◌, ◌++◌, append_assoc}
+use native.Mathlib.Nat.{add-zero, add-suc, sub-zero, pow-suc}
 use native.Mathlib.Omega.{arith}
 use borrow.Author.Tests.{lt-ltb, le-ltb, ltb-true, ltb-false}
 use lib.Dec.{ltb}
@@ -23,9 +23,6 @@ pub record Filling (b k n p i m : ℕ) (l₀ l : List ℕ) : Type 0 where
   pub kept : take (p + i) l ≡ take (p + i) l₀
   pub past : drop (p + k) l ≡ drop (p + k) l₀
   pub rest : digits b k n ≡ digits b i m ++ take (k - i) (drop (p + i) l)
-
-pub filling_none : (b k n p : ℕ) (l : List ℕ) → Filling b k n p k n l l
-filling_none b k n p l = record { long = refl; kept = refl; past = refl; rest = sym (ap (λ (j : ℕ). digits b k n ++ take j (drop (p + k) l)) (sub_self k) ∙ append-nil (digits b k n)) }
 
 -- the place q is put, where the list is long enough
 placed : (l : List ℕ) (q d : ℕ) → q < length l → drop q (set l q d) ≡ d ∷ drop (suc q) l
@@ -112,6 +109,14 @@ at_most (suc k) (suc f) n h =
     (λ u. let v = under_ten (suc f) n u in omega arith)
     (λ u. let p = pow-suc 10 (suc k) in let v = ten_or_more f n u in let w = at_most k f (n / 10) (omega arith) in omega arith)
 
--- a usize has at most twenty
-pub at_most_twenty : (n : ℕ) → n < 2 ^ 64 → decimals n n ≤ 20
-at_most_twenty n h = at_most 19 n n (omega arith)
+ten_power : (k : ℕ) → 0 < 10 ^ k
+ten_power zero = omega arith
+ten_power (suc k) = let p = pow-suc 10 k in let q = ten_power k in omega arith
+
+at_least : (k n : ℕ) → 10 ^ k ≤ n → k < decimals n n
+at_least zero n h = by_ten n (ltb n 10) refl (λ u. let v = one_decimal n u in omega arith) (λ u. let v = one_more n u in omega arith)
+at_least (suc k) n h = let p = pow-suc 10 k in let q = ten_power k in let v = one_more n (omega arith) in let w = at_least k (n / 10) (omega arith) in omega arith
+
+-- as many as the power of ten says that it has reached
+pub of_power : (k n : ℕ) → 10 ^ k ≤ n → n < 10 * 10 ^ k → decimals n n ≡ k + 1
+of_power k n h l = let p = pow-suc 10 k in let v = at_least k n h in let w = at_most k n n (omega arith) in omega arith

@@ -1,58 +1,39 @@
--- The loop over a tape: the lines so far, what is left of it, and the page that it ends with.
-use Prim.Native.Nat.{ℕ, suc, ◌+◌, ◌-◌, ◌*◌, ◌≤◌, ◌<◌, min}
-use mathlib.Core.Path.{◌≡◌, sym, ap, ◌∙◌, subst⁻¹}
+-- The loop over a tape: the lines so far, and what is left of it.
+use Prim.Native.Nat.{ℕ, suc, ◌+◌, ◌-◌, ◌*◌, ◌≤◌, ◌<◌}
+use mathlib.Core.Path.{◌≡◌, refl, sym, ap, ◌∙◌, subst⁻¹}
 use mathlib.Core.List.{List, [], ◌∷◌, ◌++◌, append-nil, append_assoc}
 use native.Mathlib.Numerals.{add-one}
 use native.Mathlib.Omega.{arith}
-use borrow.Author.Tests.{le-leb}
-use lib.Ieee.{Float}
+use borrow.Author.Tests.{le-leb, lt-leb}
 use lib.ListN.{length, take, drop, get_or, length-drop, drop_of_length-le}
+use Rattle.std.specs.Prelude.{None}
+use Rattle.std.proofs.Common.{length-take-le}
 use lib.Seq.{drop-cons, drop-drop, take_all}
-use Rattle.float.specs.declared.Head.{Head}
-use Rattle.float.specs.declared.PlacedFloatedBox.{PlacedFloatedBox}
-use Rattle.float.specs.declared.Segment.{Segment}
-use Rattle.float.specs.Bands.{none}
-use Rattle.float.specs.Head.{page_with}
-use Rattle.float.specs.Page.{Page, page_of}
-use Rattle.float.proofs.Front.{take_min}
-use Rattle.words.specs.Laid.{laid}
-use Rattle.tape.specs.declared.step.Calculator.{Calculator}
+use Rattle.tape.specs.declared.line.Out.{Out}
 use Rattle.tape.specs.declared.step.State.{State}
-use Rattle.tape.specs.Put.{Put, Turned, Ends, fresh_head, state_of}
-use Rattle.tape.specs.Tape.{run, lines_of, runs, page_after}
-use Rattle.tape.proofs.Held.{fresh_same}
-use Rattle.tape.proofs.Laying.{Laying}
-use Rattle.tape.proofs.Putting.{then, nothing}
-use Rattle.tape.proofs.Running.{run_none, runs_none}
-use Rattle.tape.proofs.Same.{run_same, runs_same}
+use Rattle.tape.specs.Bytes.{decimal, row}
+use Rattle.tape.specs.Put.{Put, Puts, Line, Runs, Answered}
+use Rattle.tape.specs.Record.{read_of}
+use Rattle.tape.specs.Tape.{fresh_state, run, lines_of, runs, page_after}
+use Rattle.tape.proofs.Putting.{and_then, from_front, nothing}
+use Rattle.tape.proofs.Running.{Turned, turned_broken, run_none, runs_none}
 
--- at the offset i of the tape t, in the state s: the lines so far were put at the front of a₀, which is then a, and have n bytes; the rest of the tape leaves the page that the whole leaves
-pub record Going (t a₀ a : List ℕ) (s : State) (i n : ℕ) : Type 0 where
+-- at the offset i of the tape t, run from the state s₀, in the state s: the lines so far were put into the room of o₀, which is then o; the rest of the tape leaves the state that the whole leaves
+pub record Going (t : List ℕ) (s₀ : State) (o₀ o : Out) (s : State) (i : ℕ) : Type 0 where
   pub done : List ℕ
   pub fuel : ℕ
   pub enough : length t ≤ i + fuel
   pub inside : i ≤ length t
-  pub whole : lines_of t ≡ done ++ run fuel i (drop i t) s
-  pub ends : page_of (runs fuel (drop i t) s).page ≡ page_of (page_after t)
-  pub few : n ≤ 11 * i
-  pub put : Put a₀ 0 done a n
+  pub whole : run (length t) 0 t s₀ ≡ done ++ run fuel i (drop i t) s
+  pub ends : runs fuel (drop i t) s ≡ runs (length t) t s₀
+  pub few : o.at ≤ o₀.at + 11 * i
+  pub puts : Puts o₀ done o
 
--- at the start: a fresh head is a fresh page, whatever stands in the arrays
-pub going_fresh : (t a : List ℕ) (h : Head) (bs : List Segment) (xs : List PlacedFloatedBox) → h ≡ fresh_head → length t ≤ 65536 → Going t a a (state_of (page_with h bs xs) Calculator.None) 0 0
-unfolding lines_of page_after
-going_fresh t a h bs xs e k = record {
-  done = [];
-  fuel = length t;
-  enough = omega arith;
-  inside = omega arith;
-  whole = rw (le-leb (length t) 65536 k, lines_of) (run_same (length t) 0 t (fresh_same h bs xs e));
-  ends = rw (le-leb (length t) 65536 k, page_after) (sym (runs_same (length t) t (fresh_same h bs xs e)).page);
-  few = omega arith;
-  put = nothing a;
-}
+pub going_first : (t : List ℕ) (s : State) (o : Out) → Going t s o o s 0
+going_first t s o = record { done = []; fuel = length t; enough = omega arith; inside = omega arith; whole = refl; ends = refl; few = omega arith; puts = nothing o }
 
-module _ (t a₀ : List ℕ) {a b : List ℕ} {s s' : State} {i n m r : ℕ} (g : Going t a₀ a s i n) (h : i < length t)
-    (q : Turned s (get_or t i 0) (take (length t - (i + 1)) (drop (i + 1) t)) i s' m a n b r) where
+module _ (t : List ℕ) (s₀ : State) (o₀ : Out) {o p : Out} {s s' : State} {i m : ℕ} (g : Going t s₀ o₀ o s i) (h : i < length t)
+    (q : Turned s (get_or t i 0) (take (length t - (i + 1)) (drop (i + 1) t)) i s' m o p) where
   abbrev left : ℕ
   left = g.fuel - 1
 
@@ -71,7 +52,7 @@ module _ (t a₀ : List ℕ) {a b : List ℕ} {s s' : State} {i n m r : ℕ} (g 
   here : drop i t ≡ get_or t i 0 ∷ take (length t - (i + 1)) (drop (i + 1) t)
   here = drop-cons t i 0 h ∙ ap (λ (x : List ℕ). get_or t i 0 ∷ x) (sym body)
 
-  next : lines_of t ≡ (g.done ++ q.line) ++ run left m (drop m t) s'
+  next : run (length t) 0 t s₀ ≡ (g.done ++ q.line) ++ run left m (drop m t) s'
   next =
       g.whole
       ∙ ap (λ (x : ℕ). g.done ++ run x i (drop i t) s) more
@@ -79,55 +60,57 @@ module _ (t a₀ : List ℕ) {a b : List ℕ} {s s' : State} {i n m r : ℕ} (g 
       ∙ ap (λ (x : List ℕ). g.done ++ x) (q.goes left ∙ ap (λ (x : List ℕ). q.line ++ run left m x s') rest)
       ∙ sym (append_assoc g.done q.line (run left m (drop m t) s'))
 
-  page_next : page_of (runs left (drop m t) s').page ≡ page_of (page_after t)
-  page_next =
-      ap (λ (x : List ℕ). page_of (runs left x s').page) (sym rest)
+  state_next : runs left (drop m t) s' ≡ runs (length t) t s₀
+  state_next =
+      ap (λ (x : List ℕ). runs left x s') (sym rest)
       ∙ sym (q.leaves left)
-      ∙ ap (λ (x : List ℕ). page_of (runs (suc left) x s).page) (sym here)
-      ∙ ap (λ (x : ℕ). page_of (runs x (drop i t) s).page) (sym more)
+      ∙ ap (λ (x : List ℕ). runs (suc left) x s) (sym here)
+      ∙ ap (λ (x : ℕ). runs x (drop i t) s) (sym more)
       ∙ g.ends
 
-  pub going_more : Going t a₀ b s' m r
+  pub going_more : Going t s₀ o₀ p s' m
   going_more = record {
     done = g.done ++ q.line;
     fuel = left;
     enough = let x = g.enough in let y = q.on in omega arith;
     inside = on_to;
     whole = next;
-    ends = page_next;
-    few = let x = g.few in let y = q.few in let z = q.on in let e = q.put.next in omega arith;
-    put = then g.put q.put;
+    ends = state_next;
+    few = let x = g.few in let y = q.few in let z = q.on in let e = q.puts.put.next in omega arith;
+    puts = and_then g.puts q.puts;
   }
 
--- at the end: m bands are live, and n of them were to be laid
-pub going_done : (t a₀ : List ℕ) {a : List ℕ} {o₀ o : List Float} {h : Head} {bs : List Segment} {xs : List PlacedFloatedBox} {c : Calculator} {i n k p m v q : ℕ} → Going t a₀ a (state_of (page_with h bs xs) c) i n → length t ≤ i → length t ≤ 65536 → length bs ≡ 96 → p ≡ min k 95
-    → m ≡ min h.count 96
-    → (v ≤ m) × (384 ≤ length o₀ → v ≡ m)
-    → Laying bs v o₀ o q
-    → v ≤ q
-    → Ends t a₀ a k o (record { end = n; width = h.width; count = m; band = get_or bs p none; depth = h.depth })
-unfolding page_of
-going_done t a₀ {a} {o₀} {o} {h} {bs} {xs} {c} {i} {n} {k} {p} {m} {v} {q} g z l w e f u y d =
-    let s = state_of (page_with h bs xs) c in
-    let left_page : page_of (page_after t) ≡ page_of s.page = sym g.ends ∙ ap (λ (x : State). page_of x.page) (ap (λ (x : List ℕ). runs g.fuel x s) (drop_of_length-le t z) ∙ runs_none g.fuel s) in
-    let lines : lines_of t ≡ g.done = g.whole ∙ ap (λ (x : List ℕ). g.done ++ run g.fuel i x s) (drop_of_length-le t z) ∙ ap (λ (x : List ℕ). g.done ++ x) (run_none g.fuel i s) ∙ append-nil g.done in
-    let live : (page_of (page_after t)).bands ≡ take m bs = ap (λ (x : Page). x.bands) left_page ∙ sym (ap (λ (x : ℕ). take x bs) f ∙ take_min bs h.count 96 w) in
-    record {
-      answered = record {
-        few = let x = g.few in let y = g.inside in omega arith;
-        put = subst⁻¹ (λ (x : List ℕ). Put a₀ 0 x a n) lines g.put;
-      };
-      left = record {
-        bands = bs;
-        long = w;
-        width = sym (ap (λ (x : Page). x.width) left_page);
-        few = omega arith;
-        live = live;
-        picked = ap (λ (x : ℕ). get_or bs x none) e;
-        depth = sym (ap (λ (x : Page). x.depth) left_page);
-        laid = λ r.
-            let long : 384 ≤ length o₀ = let x = y.same in omega arith in
-            let all : q ≡ m = let x = u.1 long in let b = y.inside in omega arith in
-            ap (λ (x : ℕ). take (4 * x) o) (sym all) ∙ (y.lays long).front ∙ ap (λ (x : ℕ). laid (take x bs)) all ∙ ap laid (sym live);
-      };
+pub going_done : (t : List ℕ) (s₀ : State) {o₀ o : Out} {a b : List ℕ} {s : State} {i : ℕ} → (o₀.room.now ≡ a) × (o₀.at ≡ 0) → b ≡ o.room.now → Going t s₀ o₀ o s i → length t ≤ i → Runs t s₀ a b s o.at
+going_done t s₀ {o₀} {o} {a} {b} {s} {i} e f g z =
+    let none : drop i t ≡ [] = drop_of_length-le t z in record {
+      few = let x = g.few in let y = g.inside in let w = e.1 in omega arith;
+      put = subst⁻¹ (λ (x : List ℕ). Put a 0 x b o.at) (g.whole ∙ ap (λ (x : List ℕ). g.done ++ run g.fuel i x s) none ∙ ap (λ (x : List ℕ). g.done ++ x) (run_none g.fuel i s) ∙ append-nil g.done) (from_front e f g.puts);
+      after = sym (runs_none g.fuel s) ∙ ap (λ (x : List ℕ). runs g.fuel x s) (sym none) ∙ g.ends;
     }
+
+-- a broken record ends the tape
+pub going_broken : (t : List ℕ) (s₀ : State) {o₀ o p : Out} {a b : List ℕ} {s : State} {i : ℕ} → (o₀.room.now ≡ a) × (o₀.at ≡ 0) → b ≡ p.room.now → Going t s₀ o₀ o s i → i < length t → length t ≤ 65536
+    → read_of (get_or t i 0) (take (length t - (i + 1)) (drop (i + 1) t)) ≡ None → Line o (row 84 (decimal i ∷ [])) p → Runs t s₀ a b s p.at
+going_broken t s₀ {o₀} {i = i} f j g h w e l =
+    let whole : i + 1 + length (take (length t - (i + 1)) (drop (i + 1) t)) ≡ length t = omega (arith, length-drop (i + 1) t, length-take-le (length t - (i + 1)) (drop (i + 1) t) (omega (arith, length-drop (i + 1) t))) in
+    going_done t s₀ f j (going_more t s₀ o₀ g h (turned_broken _ _ _ i (omega arith) whole e l)) (omega arith)
+
+-- ---- a run from a fresh state
+
+-- the lines of a tape that is not too long
+pub run_answered : (t a : List ℕ) {b : List ℕ} {s₀ s : State} {r : ℕ} → s₀ ≡ fresh_state → length t ≤ 65536 → Runs t s₀ a b s r → Answered t a b r
+unfolding lines_of
+run_answered t a {b} {s₀} {s} {r} e h g = record {
+  few = let x = g.few in omega arith;
+  put = subst⁻¹ (λ (x : List ℕ). Put a 0 x b r) (rw (le-leb (length t) 65536 h, lines_of) (ap (λ (x : State). run (length t) 0 t x) (sym e))) g.put;
+}
+
+-- the page after it
+pub page_followed : (t : List ℕ) {a b : List ℕ} {s₀ s : State} {r : ℕ} → length t ≤ 65536 → Runs t s₀ a b s r → s₀ ≡ fresh_state → s.page ≡ page_after t
+unfolding page_after
+page_followed t {s₀ = s₀} h g e = ap (λ (x : State). x.page) (g.after ∙ ap (λ (x : State). runs (length t) t x) e) ∙ sym (rw (le-leb (length t) 65536 h, page_after))
+
+-- of a tape that is too long, a fresh page
+pub page_left : (t : List ℕ) {s : State} → 65536 < length t → s ≡ fresh_state → s.page ≡ page_after t
+unfolding page_after fresh_state
+page_left t h e = ap (λ (x : State). x.page) e ∙ sym (rw (lt-leb (length t) 65536 h, page_after))

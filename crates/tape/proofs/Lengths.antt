@@ -1,4 +1,5 @@
 -- How long a line is: at most eleven bytes for each byte of its record; and the lines that are counted before they are put.
+use Rattle.std.specs.Prelude.{Option, Some, None, Result, Ok, Err, ⊤}
 use Prim.Native.Nat.{ℕ, zero, suc, ◌+◌, ◌≤◌, ◌<◌}
 use mathlib.Core.Logic.{◌⊎◌, inl, inr}
 use mathlib.Core.Path.{◌≡◌, refl, ap}
@@ -6,11 +7,8 @@ use mathlib.Core.List.{List, [], ◌∷◌}
 use native.Mathlib.Omega.{arith}
 use lib.Ieee.{Float, binary32, to_bits}
 use lib.ListN.{length, length-append}
-use Rattle.float.specs.declared.CalculatorAnswer.{CalculatorAnswer}
-use Rattle.float.specs.declared.Done.{Done}
 use Rattle.float.specs.declared.Refusal.{Refusal}
 use Rattle.float.specs.Calculator.{result_of}
-use Rattle.tape.specs.declared.step.Calculator.{Calculator}
 use Rattle.tape.specs.declared.step.State.{State}
 use Rattle.tape.specs.Bytes.{float, decimal, digits, decimals, fields, row}
 use Rattle.tape.specs.Lines.{refused_line, done_line}
@@ -19,6 +17,7 @@ use Rattle.words.specs.declared.Line.{Line}
 use Rattle.tape.specs.Tape.{started, add_to, result_line, step_of}
 use Rattle.tape.specs.Text.{set_line}
 use Rattle.tape.proofs.Digits.{length_digits, at_most}
+use Rattle.float.specs.declared.FloatIntrinsicWidthCalculator.{FloatIntrinsicWidthCalculator}
 
 -- a letter and one field
 one_field : (c : ℕ) (f : List ℕ) → length (row c (f ∷ [])) ≡ 3 + length f
@@ -37,25 +36,25 @@ length_refused Refusal.BandsFull = omega arith
 length_refused Refusal.NoCalculator = omega arith
 length_refused Refusal.NoRoom = omega arith
 
-length_done : (c : ℕ) (d : Done) → length (done_line c d) ≤ 11
+length_done : (c : ℕ) (d : Result ⊤ Refusal) → length (done_line c d) ≤ 11
 unfolding done_line fields
-length_done c Done.Accepted = omega arith
-length_done c (Done.Refused n) = length_refused n
+length_done c (Ok _) = omega arith
+length_done c (Err n) = length_refused n
 
-length_started : (c : Calculator) (a : CalculatorAnswer) → length (started c a).line ≤ 11
+length_started : (c : Option FloatIntrinsicWidthCalculator) (a : Result FloatIntrinsicWidthCalculator Refusal) → length (started c a).line ≤ 11
 unfolding started fields
-length_started c (CalculatorAnswer.Started new) = omega arith
-length_started c (CalculatorAnswer.Refused n) = length_refused n
+length_started c (Ok new) = omega arith
+length_started c (Err n) = length_refused n
 
-length_added : (c : Calculator) (w : Float) (side clear : ℕ) → length (add_to c w side clear).line ≤ 11
+length_added : (c : Option FloatIntrinsicWidthCalculator) (w : Float) (side clear : ℕ) → length (add_to c w side clear).line ≤ 11
 unfolding add_to
-length_added (Calculator.One c) w side clear = length_done 65 _
-length_added Calculator.None w side clear = length_refused _
+length_added (Some c) w side clear = length_done 65 _
+length_added None w side clear = length_refused _
 
-length_result : (c : Calculator) → length (result_line c) ≤ 11
+length_result : (c : Option FloatIntrinsicWidthCalculator) → length (result_line c) ≤ 11
 unfolding result_line float
-length_result (Calculator.One c) = let e = one_field 73 (float (result_of c)) in let d = length_digits 16 8 (to_bits binary32 (result_of c)) in omega arith
-length_result Calculator.None = length_refused Refusal.NoCalculator
+length_result (Some c) = let e = one_field 73 (float (result_of c)) in let d = length_digits 16 8 (to_bits binary32 (result_of c)) in omega arith
+length_result None = length_refused Refusal.NoCalculator
 
 -- only a line of numbers is longer, and its body is long
 pub by_kind : (s : State) (k : ℕ) (b : List ℕ) → (15 ≤ body_len k) ⊎ (length (step_of s (record_of k b)).line ≤ 11)

@@ -3,13 +3,10 @@ pub mod Reading
 pub mod Digits
 pub mod Putting
 pub mod Same
-pub mod Held
 pub mod Stepping
 pub mod Running
-pub mod Laying
 pub mod Going
 pub mod Room
-pub mod AfterTape
 pub mod Lengths
 pub mod Stopping
 pub mod Texts

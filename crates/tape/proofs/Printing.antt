@@ -8,15 +8,13 @@ use mir.Syntax.{w64}
 use mir.Val.{to_z}
 use lib.IntN.{negsuc}
 use lib.ListN.{length, take, get_or, length-append}
-use lib.Seq.{take-suc}
-use Rattle.float.proofs.Front.{take_front}
+use lib.Seq.{take-suc, take_all}
 use Rattle.words.specs.declared.Line.{Line as LineOf}
-use Rattle.words.specs.declared.Lines.{Lines}
-use Rattle.words.specs.Lines.{answered, lines}
-use Rattle.tape.specs.Put.{Put, Line}
+use Rattle.tape.specs.declared.line.Out.{Out}
+use Rattle.tape.specs.Put.{Puts, Line}
 use Rattle.tape.specs.Text.{set_line}
-use Rattle.tape.proofs.Putting.{then, nothing}
-use Rattle.tape.proofs.Room.{Right, right_put, right_short}
+use Rattle.tape.proofs.Putting.{and_then, nothing}
+use Rattle.tape.proofs.Room.{Right, right_puts, right_short}
 
 flat_last : (l : List LineOf) (x : LineOf) → flat_map set_line (l ++ x ∷ []) ≡ flat_map set_line l ++ set_line x
 unfolding flat_map
@@ -41,34 +39,30 @@ counted_more l d {n} {i} {m} h g e = record {
   few = let x = g.few in let y = e.1 in omega arith;
 }
 
--- the first k of them were put at the front of a₀, which is then a, and end at n
-pub record Printed (a₀ a : List ℕ) (l : List LineOf) (n k : ℕ) : Type 0 where
-  pub few : n ≤ 64 * k
-  pub put : Put a₀ 0 (flat_map set_line (take k l)) a n
+-- the first k of them were put into the room of o₀, which is then o
+pub record Printed (o₀ o : Out) (l : List LineOf) (k : ℕ) : Type 0 where
+  pub few : o.at ≤ o₀.at + 64 * k
+  pub puts : Puts o₀ (flat_map set_line (take k l)) o
 
-pub printed_none : (a : List ℕ) (l : List LineOf) → Printed a a l 0 0
+pub printed_none : (o : Out) (l : List LineOf) → Printed o o l 0
 unfolding flat_map
-printed_none a l = record { few = omega arith; put = nothing a }
+printed_none o l = record { few = omega arith; puts = nothing o }
 
-pub printed_more : (l : List LineOf) (d : LineOf) {a₀ a b : List ℕ} {n k r : ℕ} → k < length l → Printed a₀ a l n k → Line a n (set_line (get_or l k d)) b r → Printed a₀ b l r (k + 1)
-printed_more l d {a₀} {a} {b} {n} {k} {r} h g p = record {
-  few = let x = g.few in let y = p.short in omega arith;
-  put = subst⁻¹ (λ (x : List ℕ). Put a₀ 0 x b r) (flat_more l k d h) (then g.put p.put);
+pub printed_more : (l : List LineOf) (d : LineOf) {o₀ o p : Out} {k : ℕ} → k < length l → Printed o₀ o l k → Line o (set_line (get_or l k d)) p → Printed o₀ p l (k + 1)
+printed_more l d {o₀} {o} {p} {k} h g n = record {
+  few = let x = g.few in let y = n.short in omega arith;
+  puts = subst⁻¹ (λ (x : List ℕ). Puts o₀ x p) (flat_more l k d h) (and_then g.puts n.puts);
 }
 
--- the lines of a text that is set are those at the front of the array
-live_lines : {s : Lines} (xs : List LineOf) → s ≡ answered (lines xs) → take s.count s.lines ≡ xs
-unfolding answered
-live_lines xs e = ap (λ (x : Lines). take x.count x.lines) e ∙ take_front xs _
+-- all of them
+module _ (l : List LineOf) {n i : ℕ} (c : Counted l n i) (e : length l ≤ i) where
+  all : flat_map set_line (take i l) ≡ flat_map set_line l
+  all = ap (flat_map set_line) (take_all i l e)
 
-module _ (s : Lines) {n i : ℕ} (c : Counted s.lines n i) (e : i ≡ s.count) (xs : List LineOf) (h : s ≡ answered (lines xs)) where
-  all : flat_map set_line (take i s.lines) ≡ flat_map set_line xs
-  all = ap (flat_map set_line) (ap (λ (j : ℕ). take j s.lines) e ∙ live_lines xs h)
+  pub lines_short : (a : List ℕ) → length a < n → Right (flat_map set_line l) a a (negsuc 12)
+  lines_short a h = right_short (flat_map set_line l) a (let x = c.long in let y = ap length all in omega arith)
 
-  pub lines_short : (a : List ℕ) → length a < n → Right (flat_map set_line xs) a a (negsuc 12)
-  lines_short a l = right_short (flat_map set_line xs) a (let x = c.long in let y = ap length all in omega arith)
-
-  pub lines_put : (a : List ℕ) {b : List ℕ} {m k : ℕ} → n ≤ length a → Printed a b s.lines m k → k ≡ s.count → s.count ≤ 512 → Right (flat_map set_line xs) a b (to_z w64 m)
-  lines_put a {b} {m} {k} l p f few =
-      let q : Put a 0 (flat_map set_line xs) b m = subst (λ (x : List ℕ). Put a 0 x b m) (ap (λ (j : ℕ). flat_map set_line (take j s.lines)) (f ∙ sym e) ∙ all) p.put in
-      right_put (flat_map set_line xs) a (let x = p.few in omega arith) (let x = q.next in let y = c.long in let z = ap length all in omega arith) q
+  pub lines_put : {a b : List ℕ} {o₀ o : Out} {k : ℕ} → (o₀.room.now ≡ a) × (o₀.at ≡ 0) → b ≡ o.room.now → n ≤ length a → Printed o₀ o l k → length l ≤ k → k ≤ 512 → Right (flat_map set_line l) a b (to_z w64 o.at)
+  lines_put {o₀ = o₀} {o} {k} f e h p g few =
+      let q : Puts o₀ (flat_map set_line l) o = subst (λ (x : List ℕ). Puts o₀ x o) (ap (flat_map set_line) (take_all k l g)) p.puts in
+      right_puts (flat_map set_line l) f e (let x = p.few in let y = f.1 in omega arith) (let x = q.put.next in let y = f.1 in let z = c.long in let w = ap length all in omega arith) q

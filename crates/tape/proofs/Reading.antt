@@ -1,41 +1,32 @@
 -- A record by its kind: what holds of the kind's number holds of the kind, and which tests make a record whole.
+use Rattle.std.specs.Prelude.{Option, Some, None}
 use Prim.Native.Nat.{ℕ, zero, suc, ◌≤◌, ◌<◌}
-use mathlib.Core.Path.{◌≡◌, refl, sym, ap, ◌∙◌, subst}
+use mathlib.Core.Path.{◌≡◌, refl, sym, ap, ◌∙◌}
 use mathlib.Core.List.{List}
 use native.Mathlib.Omega.{arith}
 use borrow.Author.Tests.{lt-ltb, le-ltb, le-leb, lt-leb}
 use lib.ListN.{length}
-use Rattle.tape.specs.declared.record.Mode.{Mode}
-use Rattle.tape.specs.declared.record.Read.{Read}
 use Rattle.tape.specs.declared.record.Record.{Record}
 use Rattle.tape.specs.Record.{body_len, mode_of, record_of, read_of}
+use Rattle.float.specs.declared.AvailableSpace.{AvailableSpace}
 
-pub room : (m : ℕ) {k n : ℕ} → k ≡ m → body_len k ≤ n → body_len m ≤ n
-room m {k} {n} e h = subst (λ (j : ℕ). body_len j ≤ n) e h
-
-pub as_kind : (m : ℕ) (b : List ℕ) {k : ℕ} {r : Record} → k ≡ m → r ≡ record_of m b → r ≡ record_of k b
-as_kind m b e h = h ∙ ap (λ (j : ℕ). record_of j b) (sym e)
-
-pub past : (m : ℕ) {k : ℕ} → m ≤ k → (k ≡ m → ⊥) → suc m ≤ k
-past m h n = omega arith
-
-pub whole : (k : ℕ) (b : List ℕ) {r : Record} → k < 8 → body_len k ≤ length b → r ≡ record_of k b → Read.Whole r ≡ read_of k b
+pub whole : (k : ℕ) (b : List ℕ) {r : Record} → k < 8 → body_len k ≤ length b → r ≡ record_of k b → Some r ≡ read_of k b
 unfolding read_of
-whole k b h l e = simp (lt-ltb k 8 h, le-leb (body_len k) (length b) l) (ap Read.Whole e)
+whole k b h l e = simp (lt-ltb k 8 h, le-leb (body_len k) (length b) l) (ap Some e)
 
-pub cut : (k : ℕ) (b : List ℕ) → k < 8 → length b < body_len k → Read.Broken ≡ read_of k b
+pub cut : (k : ℕ) (b : List ℕ) → k < 8 → length b < body_len k → None ≡ read_of k b
 unfolding read_of
 cut k b h l = simp (lt-ltb k 8 h, lt-leb (body_len k) (length b) l)
 
-pub unknown : (k : ℕ) (b : List ℕ) → 8 ≤ k → Read.Broken ≡ read_of k b
+pub unknown : (k : ℕ) (b : List ℕ) → 8 ≤ k → None ≡ read_of k b
 unfolding read_of
 unknown k b h = simp (le-ltb k 8 h)
 
 -- the mode that an arm reads
-pub as_mode : (m : ℕ) (b : List ℕ) {k : ℕ} {x : Mode} → k ≡ m → x ≡ mode_of m b → Record.Start x ≡ Record.Start (mode_of k b)
+pub as_mode : (m : ℕ) (b : List ℕ) {k : ℕ} {x : Option AvailableSpace} → k ≡ m → x ≡ mode_of m b → Record.Start x ≡ Record.Start (mode_of k b)
 as_mode m b e h = ap Record.Start (h ∙ ap (λ (j : ℕ). mode_of j b) (sym e))
 
-pub unknown_mode : (k : ℕ) (b : List ℕ) → (k ≡ 0 → ⊥) → (k ≡ 1 → ⊥) → (k ≡ 2 → ⊥) → Record.Start Mode.Unknown ≡ Record.Start (mode_of k b)
+pub unknown_mode : (k : ℕ) (b : List ℕ) → (k ≡ 0 → ⊥) → (k ≡ 1 → ⊥) → (k ≡ 2 → ⊥) → Record.Start None ≡ Record.Start (mode_of k b)
 unfolding mode_of
 unknown_mode zero b x y z = absurd (x refl)
 unknown_mode (suc zero) b x y z = absurd (y refl)

@@ -1,6 +1,6 @@
 -- The room for the lines: a tape that is too long, lines that fit, and lines that do not.
 use Prim.Native.Nat.{ℕ, ◌≤◌, ◌<◌}
-use mathlib.Core.Logic.{⊎_elim, inl}
+use mathlib.Core.Logic.{⊎_elim}
 use mathlib.Core.Path.{◌≡◌, refl, sym, ap, ◌∙◌, subst, subst⁻¹}
 use mathlib.Core.List.{List, [], ◌∷◌, ◌++◌}
 use native.Mathlib.Omega.{arith}
@@ -11,20 +11,23 @@ use mir.ValLaws.{to_z_pos, to_z-of_z}
 use lib.IntN.{ℤ, pos, negsuc}
 use lib.ListN.{length, drop, take-append-drop}
 use Rattle.float.specs.Page.{front}
+use Rattle.tape.specs.declared.line.Out.{Out}
 use Rattle.tape.specs.Bytes.{fields, row}
-use Rattle.tape.specs.Put.{Put, Line, Answered, Roomy, reach}
+use Rattle.tape.specs.Put.{Put, Puts, Line, Answered, Roomy, reach}
 use Rattle.tape.specs.Tape.{lines_of, returned, filled}
+use Rattle.tape.proofs.Putting.{from_front}
 
 over : (t : List ℕ) → 65536 < length t → lines_of t ≡ row 76 []
 unfolding lines_of
 over t h = rw (lt-leb (length t) 65536 h, lines_of)
 
-pub over_answered : (t a : List ℕ) {b : List ℕ} {r : ℕ} → 65536 < length t → Line a 0 (row 76 []) b r → Answered t a b r
+pub over_answered : (t : List ℕ) {a b : List ℕ} {o p : Out} → 65536 < length t → (o.room.now ≡ a) × (o.at ≡ 0) → b ≡ p.room.now → Line o (row 76 []) p → Answered t a b p.at
 unfolding fields
-over_answered t a {b} {r} h p = record {
-  few = let x = p.put.next in omega arith;
-  put = subst⁻¹ (λ (x : List ℕ). Put a 0 x b r) (over t h) p.put;
-}
+over_answered t {a} {b} {o} {p} h e f l =
+    let q = from_front e f l.puts in record {
+      few = let x = q.next in omega arith;
+      put = subst⁻¹ (λ (x : List ℕ). Put a 0 x b p.at) (over t h) q;
+    }
 
 -- what is to be shown of the lines ls and the room a: the number q is returned, and the room is then d
 abbrev pub Right : List ℕ → List ℕ → List ℕ → ℤ → Type 0
@@ -44,6 +47,9 @@ module _ (ls a : List ℕ) where
   pub right_short : length a < length ls → Right ls a a (negsuc 12)
   unfolding returned filled
   right_short h = let e = lt-leb (length ls) (length a) h in (simp e, simp e)
+
+pub right_puts : (ls : List ℕ) {a b : List ℕ} {o p : Out} → (o.room.now ≡ a) × (o.at ≡ 0) → b ≡ p.room.now → p.at ≤ reach → p.at ≤ length a → Puts o ls p → Right ls a b (to_z w64 p.at)
+right_puts ls {a} e f m h q = right_put ls a m h (from_front e f q)
 
 -- a call answers what another one does
 pub passed_on : (a : List ℕ) {x y d : List ℕ} {q : ℤ} → SFits w64 q → x ≡ y → Right x a d q → Right y a d (to_z w64 (of_z w64 q))
@@ -71,9 +77,3 @@ module _ (t a : List ℕ) where
     short h =
         let f = right_short (lines_of t) a (let x = c.put.next in let y = ap length same in omega arith) in
         (f.0, same ∙ f.1)
-
-    pub enough : r ≤ length (b ++ a) → Roomy t (b ++ a)
-    enough h = inl (let x = c.put.next in omega arith)
-
-    pub counted : {d : List ℕ} {q : ℤ} → Right (lines_of t) (b ++ a) d q → Right (lines_of t) a d q
-    counted {d} {q} k = subst (λ (x : List ℕ). Right (lines_of t) x d q) same k

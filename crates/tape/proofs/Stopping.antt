@@ -1,11 +1,11 @@
 -- Where a tape stops: it is looked through record by record, by kinds and lengths alone.
+use Rattle.std.specs.Prelude.{Some, None}
 use Prim.Native.Nat.{ℕ, zero, suc, ◌+◌, ◌-◌, ◌≤◌, ◌<◌}
 use mathlib.Core.Path.{◌≡◌, refl, sym, ap, ◌∙◌}
 use mathlib.Core.List.{List, [], ◌∷◌}
 use native.Mathlib.Omega.{arith}
 use lib.ListN.{length, drop, get_or, length-drop, drop_of_length-le}
 use lib.Seq.{drop-cons, drop-drop}
-use Rattle.tape.specs.declared.record.Read.{Read}
 use Rattle.tape.specs.declared.record.Record.{Record}
 use Rattle.tape.specs.Bytes.{decimal, row}
 use Rattle.tape.specs.Put.{Stops}
@@ -23,11 +23,11 @@ pub record Stopping (t : List ℕ) (i : ℕ) : Type 0 where
 pub stopping_none : (t : List ℕ) → Stopping t 0
 stopping_none t = record { fuel = length t; enough = omega arith; inside = omega arith; rest = refl }
 
-broken_whole : (f i k : ℕ) (b : List ℕ) {r : Record} → Read.Whole r ≡ read_of k b → broken (suc f) i (k ∷ b) ≡ broken f (suc (i + body_len k)) (drop (body_len k) b)
+broken_whole : (f i k : ℕ) (b : List ℕ) {r : Record} → Some r ≡ read_of k b → broken (suc f) i (k ∷ b) ≡ broken f (suc (i + body_len k)) (drop (body_len k) b)
 unfolding broken
 broken_whole f i k b e = rw (sym e, broken)
 
-broken_here : (f i k : ℕ) (b : List ℕ) → Read.Broken ≡ read_of k b → broken (suc f) i (k ∷ b) ≡ row 84 (decimal i ∷ [])
+broken_here : (f i k : ℕ) (b : List ℕ) → None ≡ read_of k b → broken (suc f) i (k ∷ b) ≡ row 84 (decimal i ∷ [])
 unfolding broken
 broken_here f i k b e = rw (sym e, broken)
 
@@ -44,7 +44,7 @@ module _ (t : List ℕ) {i : ℕ} (g : Stopping t i) where
     here : broken_line t ≡ broken (suc (g.fuel - 1)) i (get_or t i 0 ∷ drop (suc i) t)
     here = g.rest ∙ ap (λ (f : ℕ). broken f i (drop i t)) (let x = g.enough in omega arith) ∙ ap (broken (suc (g.fuel - 1)) i) (drop-cons t i 0 h)
 
-    stop_at : Read.Broken ≡ read_of (get_or t i 0) (drop (suc i) t) → Stops t i
+    stop_at : None ≡ read_of (get_or t i 0) (drop (suc i) t) → Stops t i
     stop_at e = record { inside = g.inside; whole = λ l. absurd (omega arith); stopped = λ _. here ∙ broken_here (g.fuel - 1) i (get_or t i 0) (drop (suc i) t) e }
 
     pub stop_unknown : 8 ≤ get_or t i 0 → Stops t i

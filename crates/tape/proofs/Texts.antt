@@ -7,7 +7,6 @@ use native.Mathlib.Omega.{arith}
 use lib.Ieee.{Float, nan}
 use lib.ListN.{length, take, get_or, set, length-set}
 use lib.Seq.{take-suc, take-suc-set, take_all}
-use Rattle.tape.specs.declared.text.Figures.{Figures}
 use Rattle.tape.specs.Bytes.{f32_at}
 use Rattle.tape.specs.Text.{floats_at}
 
@@ -28,9 +27,6 @@ pub record Writing (ws o₀ o : List Float) (i : ℕ) : Type 0 where
   pub same : length o ≡ length o₀
   pub written : take i o ≡ take i ws
 
-pub writing_none : (ws o : List Float) → Writing ws o o 0
-writing_none ws o = record { inside = omega arith; same = refl; written = refl }
-
 pub writing_more : (ws : List Float) {o₀ o : List Float} {i : ℕ} (x : Float) → i < length ws → length ws ≤ length o₀ → x ≡ get_or ws i nan → Writing ws o₀ o i → Writing ws o₀ (set o i x) (i + 1)
 writing_more ws {o₀} {o} {i} x h l e g = record {
   inside = omega arith;
@@ -48,7 +44,3 @@ pub writing_done : (ws : List Float) {o₀ o : List Float} {i n : ℕ} → Writi
 writing_done ws {o₀} {o} {i} {n} g e h =
     let f : n ≡ i = let x = g.inside in omega arith in
     ap (λ (j : ℕ). take j o) f ∙ g.written ∙ take_all i ws (omega arith)
-
--- the numbers after the widths
-pub figures_are : {a b c d e v w x y z : Float} → a ≡ v → b ≡ w → c ≡ x → d ≡ y → e ≡ z → ◌≡◌ {A = Figures} (record { gap = a; height = b; min_y = c; left = d; right = e }) (record { gap = v; height = w; min_y = x; left = y; right = z })
-figures_are p q r s t = rw (p, q, r, s, t)

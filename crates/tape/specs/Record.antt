@@ -1,10 +1,7 @@
 -- A record of a tape: its kind, and its body as the part of the tape that begins after its kind. Definitions only.
-use Rattle.std.specs.Prelude.{ℕ, zero, suc, ◌&&◌, cond, List, [], ◌∷◌, ltb, leb, eqb, length, get_or}
+use Rattle.std.specs.Prelude.{ℕ, zero, suc, ◌&&◌, cond, List, [], ◌∷◌, ltb, leb, eqb, length, get_or, Option, Some, None}
 use Rattle.float.specs.declared.AvailableSpace.{AvailableSpace}
-use Rattle.float.specs.declared.BandNumber.{BandNumber}
 use Rattle.float.specs.Place.{Call}
-use Rattle.tape.specs.declared.record.Mode.{Mode}
-use Rattle.tape.specs.declared.record.Read.{Read}
 use Rattle.tape.specs.declared.record.Record.{Record}
 use Rattle.tape.specs.Bytes.{u16_at, f32_at}
 
@@ -16,15 +13,15 @@ abbrev pub body_len : ℕ → ℕ
 body_len k = get_or body_lens k 0
 
 -- after 65,535 is none
-unfoldable pub after_at : List ℕ → ℕ → BandNumber
-after_at b i = cond (eqb (u16_at b i) 65535) BandNumber.None (BandNumber.At (u16_at b i))
+unfoldable pub after_at : List ℕ → ℕ → Option ℕ
+after_at b i = cond (eqb (u16_at b i) 65535) None (Some (u16_at b i))
 
 -- mode 0 definite, 1 min, 2 max; the number is not read unless definite
-unfoldable pub mode_of : ℕ → List ℕ → Mode
-mode_of zero b = Mode.Known (AvailableSpace.Definite (f32_at b 1))
-mode_of (suc zero) b = Mode.Known AvailableSpace.MinContent
-mode_of (suc (suc zero)) b = Mode.Known AvailableSpace.MaxContent
-mode_of (suc (suc (suc m))) b = Mode.Unknown
+unfoldable pub mode_of : ℕ → List ℕ → Option AvailableSpace
+mode_of zero b = Some (AvailableSpace.Definite (f32_at b 1))
+mode_of (suc zero) b = Some AvailableSpace.MinContent
+mode_of (suc (suc zero)) b = Some AvailableSpace.MaxContent
+mode_of (suc (suc (suc m))) b = None
 
 -- the record of a placement
 abbrev pub place_record : Call → Record
@@ -47,5 +44,5 @@ record_of k b =
     Record.Fresh
 
 -- nothing for an unknown kind or a cut body
-unfoldable pub read_of : ℕ → List ℕ → Read
-read_of k b = cond (ltb k (length body_lens) && leb (body_len k) (length b)) (Read.Whole (record_of k b)) Read.Broken
+unfoldable pub read_of : ℕ → List ℕ → Option Record
+read_of k b = cond (ltb k (length body_lens) && leb (body_len k) (length b)) (Some (record_of k b)) None

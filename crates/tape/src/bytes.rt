@@ -4,6 +4,7 @@ ghost use Rattle.std.specs.Float.{binary32};
 ghost use Rattle.std.specs.Float.Ieee.{of_bits, to_bits};
 ghost use Rattle.tape.specs.Bytes.{u16_at, f32_at};
 
+// Kept: std's `from_bits` and `to_bits` take no NaN.
 // Any pattern: those of a NaN, which `from_bits` does not take, give the one NaN.
 pub fn float_of(n: u32) -> f32
     ensures { result ≡ of_bits binary32 n }
@@ -21,22 +22,16 @@ pub fn bits_of(x: f32) -> u32
     if x != x { 0x7fc0_0000 } else { f32::to_bits(x) }
 }
 
-fn wide(b: u8) -> u32
-    ensures { (result ≡ b) × (result < 256) }
-{
-    b as u32
-}
-
-pub fn u16_at(b: &[u8], i: usize) -> u32
+pub fn u16_at(b: &[u8], i: usize) -> u16
     requires { i + 2 ≤ length b.now }
-    ensures { (result ≡ u16_at b.now i) × (result < 65536) }
+    ensures { result ≡ u16_at b.now i }
 {
-    wide(b[i]) + 256 * wide(b[i + 1])
+    u16::from_le_bytes([b[i], b[i + 1]])
 }
 
 pub fn f32_at(b: &[u8], i: usize) -> f32
     requires { i + 4 ≤ length b.now }
     ensures { result ≡ f32_at b.now i }
 {
-    float_of(u16_at(b, i) + 65536 * u16_at(b, i + 2))
+    float_of(u32::from_le_bytes([b[i], b[i + 1], b[i + 2], b[i + 3]]))
 }

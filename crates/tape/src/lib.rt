@@ -17,6 +17,7 @@ pub use crate::after::{depth, innermost};
 use crate::run::lines;
 pub use crate::text::set_words;
 
+// Kept: an i64 is the bytes written or a refusal below 0, as C reads it, here and in what `set_words` calls (their contracts are `returned`); so with `depth` and `innermost`.
 // What is returned where the room is short: minus the number of the refusal.
 const NO_ROOM: i64 = -13;
 

@@ -3,14 +3,7 @@ ghost use Rattle.std.specs.Prelude.{◌≡◌, ◌+◌, ◌<◌, ◌≤◌, leng
 ghost use Rattle.tape.specs.Record.{body_len, after_at, record_of, read_of};
 
 use crate::bytes::{f32_at, u16_at};
-use float::{AvailableSpace, BandNumber};
-
-// The mode of a calculator, with the number of a definite one.
-#[derive(Clone, Copy)]
-pub enum Mode {
-    Known(AvailableSpace),
-    Unknown,
-}
+use float::AvailableSpace;
 
 // A record, by its kind.
 #[derive(Clone, Copy)]
@@ -31,7 +24,7 @@ pub enum Record {
         left: f32,
         right: f32,
         clear: u8,
-        after: BandNumber,
+        after: Option<usize>,
     },
     Bfc {
         min_y: f32,
@@ -41,9 +34,9 @@ pub enum Record {
         right_margin: f32,
         direction: u8,
         clear: u8,
-        after: BandNumber,
+        after: Option<usize>,
     },
-    Start(Mode),
+    Start(Option<AvailableSpace>),
     Add {
         width: f32,
         side: u8,
@@ -52,13 +45,7 @@ pub enum Record {
     Result,
 }
 
-// What stands at a kind: a record with its whole body, or an unknown kind or a cut body.
-#[derive(Clone, Copy)]
-pub enum Read {
-    Whole(Record),
-    Broken,
-}
-
+// Kept: a body's length stands in a table, its kind is a number and its numbers are at fixed places, as document 01 lists them; codes stay numbers, since an unknown one is the call's refusal.
 const BODY_LENS: [usize; 8] = [0, 4, 22, 15, 24, 5, 6, 0];
 
 // An unknown kind has no body.
@@ -69,16 +56,12 @@ pub fn body_len(kind: u8) -> usize
     if k < 8 { BODY_LENS[k] } else { 0 }
 }
 
-fn after_at(b: &[u8], i: usize) -> BandNumber
+fn after_at(b: &[u8], i: usize) -> Option<usize>
     requires { i + 2 ≤ length b.now }
     ensures { result ≡ after_at b.now i }
 {
     let n = u16_at(b, i);
-    if n == 65535 {
-        BandNumber::None
-    } else {
-        BandNumber::At(n as usize)
-    }
+    if n == 65535 { None } else { Some(n as usize) }
 }
 
 fn read_width(b: &[u8]) -> Record
@@ -137,12 +120,11 @@ fn read_start(b: &[u8]) -> Record
     requires { 5 ≤ length b.now }
     ensures { result ≡ record_of 5 b.now }
 {
-    let mode = b[0];
-    match mode {
-        0 => Record::Start(Mode::Known(AvailableSpace::Definite(f32_at(b, 1)))),
-        1 => Record::Start(Mode::Known(AvailableSpace::MinContent)),
-        2 => Record::Start(Mode::Known(AvailableSpace::MaxContent)),
-        _ => Record::Start(Mode::Unknown),
+    match b[0] {
+        0 => Record::Start(Some(AvailableSpace::Definite(f32_at(b, 1)))),
+        1 => Record::Start(Some(AvailableSpace::MinContent)),
+        2 => Record::Start(Some(AvailableSpace::MaxContent)),
+        _ => Record::Start(None),
     }
 }
 
@@ -173,13 +155,11 @@ fn read_body(kind: u8, b: &[u8]) -> Record
     }
 }
 
-pub fn read_record(kind: u8, b: &[u8]) -> Read
+pub fn read_record(kind: u8, b: &[u8]) -> Option<Record>
     ensures { result ≡ read_of kind b.now }
 {
-    if kind < 8 {
-        if body_len(kind) <= b.len() {
-            return Read::Whole(read_body(kind, b));
-        }
+    if 8 <= kind || b.len() < body_len(kind) {
+        return None;
     }
-    Read::Broken
+    Some(read_body(kind, b))
 }

@@ -3,9 +3,8 @@ ghost use Rattle.std.specs.Prelude.{◌≡◌, ◌+◌, ◌*◌, ◌≤◌, ◌<
 ghost use mathlib.Core.List.{List, [], ◌∷◌, flat_map, map};
 ghost use Rattle.float.specs.Numbers.{plus_zero};
 ghost use Rattle.float.specs.Page.{page_of};
-ghost use Rattle.words.specs.declared.Line.{Line as LineOf};
 ghost use Rattle.words.specs.Laid.{Judges};
-ghost use Rattle.words.specs.Lines.{answered, lines, set_words};
+ghost use Rattle.words.specs.Lines.{set_words};
 ghost use Rattle.words.specs.Text.{check_of, cleaned};
 ghost use Rattle.tape.specs.Bytes.{u16_at, f32_at, decimal, row};
 ghost use Rattle.tape.specs.Put.{Stops};
@@ -13,13 +12,13 @@ ghost use Rattle.tape.specs.Tape.{page_after, returned, filled};
 ghost use Rattle.tape.specs.Text.{floats_at, text_of, set_line, told_lines, words_after};
 
 use crate::NO_ROOM;
-use crate::after::left_by;
 use crate::bytes::{f32_at, u16_at};
-use crate::line::{count_decimals, letter_line, number_line, set_line, text_number_of};
+use crate::line::{Out, count_decimals, text_number_of};
 use crate::record::body_len;
+use crate::step::State;
 use float::number::{finite, plus_zero, size_allowed};
-use words::check::{Judged, TextCheck, check_text};
-use words::{Line, Lines, SetAnswer, TextRefusal, set_beside};
+use words::check::{Judged, check_text};
+use words::{Line, TextRefusal};
 
 // Where a tape stops: the offset of its first broken record, or its length. No record is run.
 fn stop_of(tape: &[u8]) -> usize
@@ -40,6 +39,7 @@ fn stop_of(tape: &[u8]) -> usize
     at
 }
 
+// Kept: a length first, then a writer, three times; as a closure each would need a contract as long as its body.
 // The line of a letter alone, or nothing where the room is shorter.
 fn told_letter(answers: &mut [u8], letter: u8) -> i64
     ensures { (result ≡ returned (row letter []) answers.old) × (answers.new ≡ filled (row letter []) answers.old) }
@@ -47,7 +47,9 @@ fn told_letter(answers: &mut [u8], letter: u8) -> i64
     if answers.len() < 2 {
         return NO_ROOM;
     }
-    letter_line(answers, 0, letter) as i64
+    let mut out = Out::new(answers);
+    out.letter_line(letter);
+    out.at as i64
 }
 
 // The same of a letter and a number.
@@ -57,7 +59,9 @@ fn told_number(answers: &mut [u8], letter: u8, n: usize) -> i64
     if answers.len() < 3 + count_decimals(n) {
         return NO_ROOM;
     }
-    number_line(answers, 0, letter, n) as i64
+    let mut out = Out::new(answers);
+    out.number_line(letter, n);
+    out.at as i64
 }
 
 // The bytes of a line of a text.
@@ -68,40 +72,32 @@ fn line_length(l: Line) -> usize
 }
 
 // The same of the lines of a text: they are counted first.
-fn told_lines(set: Lines, answers: &mut [u8]) -> i64
-    requires { (set.count ≤ 512) × (length set.lines ≡ 512) }
-    ensures { (xs : List LineOf) → set ≡ answered (lines xs) → (result ≡ returned (flat_map set_line xs) answers.old) × (answers.new ≡ filled (flat_map set_line xs) answers.old) }
+fn told_lines(lines: &[Line], answers: &mut [u8]) -> i64
+    requires { length lines.now ≤ 512 }
+    ensures { (result ≡ returned (flat_map set_line lines.now) answers.old) × (answers.new ≡ filled (flat_map set_line lines.now) answers.old) }
 {
-    let n = set.count;
     let mut need = 0;
-    let mut i = 0;
-    while i < n {
-        let l = set.lines[i];
-        need += line_length(l);
-        i += 1;
+    for l in lines {
+        need += line_length(*l);
     }
     if answers.len() < need {
         return NO_ROOM;
     }
-    let mut to = 0;
-    let mut k = 0;
-    while k < n {
-        let l = set.lines[k];
-        to = set_line(answers, to, l);
-        k += 1;
+    let mut out = Out::new(answers);
+    for l in lines {
+        out.set_line(*l);
     }
-    to as i64
+    out.at as i64
 }
 
+// Kept: widths and figures are read at the places where document 02 puts them.
 // The widths of n words.
 fn read_widths(text: &[u8], n: usize, widths: &mut [f32])
     requires { (2 + 4 * n ≤ length text.now) × (n ≤ length widths.old) }
     ensures { take n widths.new ≡ floats_at n text.now 2 }
 {
-    let mut i = 0;
-    while i < n {
+    for i in 0..n {
         widths[i] = f32_at(text, 2 + 4 * i);
-        i += 1;
     }
 }
 
@@ -112,12 +108,10 @@ fn judge_text(text: &[u8], n: usize) -> Judged
 {
     let mut all_finite = true;
     let mut all_allowed = true;
-    let mut i = 0;
-    while i < n {
+    for i in 0..n {
         let w = plus_zero(f32_at(text, 2 + 4 * i));
         all_finite = all_finite & finite(w);
         all_allowed = all_allowed & size_allowed(w);
-        i += 1;
     }
     Judged {
         finite: all_finite,
@@ -151,7 +145,7 @@ fn figures_at(text: &[u8], i: usize) -> Figures
 // A text of more words than are set is refused: here by which number.
 fn refused_text(text: &[u8], n: usize) -> TextRefusal
     requires { (512 < n) × (n < 65536) × (n ≡ u16_at text.now 0) × (length text.now ≡ 22 + 4 * n) }
-    ensures { check_of (cleaned (text_of text.now)) ≡ TextCheck.Refused result }
+    ensures { check_of (cleaned (text_of text.now)) ≡ Err result }
 {
     let judged = judge_text(text, n);
     let f = figures_at(text, 2 + 4 * n);
@@ -165,8 +159,8 @@ fn refused_text(text: &[u8], n: usize) -> TextRefusal
         plus_zero(f.right),
     );
     match check {
-        TextCheck::Passed => TextRefusal::TooManyWords,
-        TextCheck::Refused(r) => r,
+        Ok(()) => TextRefusal::TooManyWords,
+        Err(r) => r,
     }
 }
 
@@ -178,14 +172,13 @@ fn set_text(tape: &[u8], text: &[u8], n: usize, answers: &mut [u8]) -> i64
     if 512 < n {
         return told_number(answers, b'R', text_number_of(refused_text(text, n)));
     }
-    let mut bands = [0.0; 384];
-    let page = left_by(tape, 0, &mut bands);
+    let mut state = State::new();
+    state.follow(tape);
     let mut widths = [0.0; 512];
     read_widths(text, n, &mut widths);
     let f = figures_at(text, 2 + 4 * n);
-    let set = set_beside(
-        page.width,
-        &bands[..4 * page.count],
+    let set = words::set_words(
+        &state.page,
         &widths[..n],
         f.gap,
         f.height,
@@ -193,10 +186,12 @@ fn set_text(tape: &[u8], text: &[u8], n: usize, answers: &mut [u8]) -> i64
         f.left,
         f.right,
     );
-    let answer = set.answer;
-    match answer {
-        SetAnswer::Set => told_lines(set, answers),
-        SetAnswer::Refused(r) => told_number(answers, b'R', text_number_of(r)),
+    match &set {
+        Ok(set) => {
+            let lines = &set.lines[..set.count];
+            told_lines(lines, answers)
+        }
+        Err(r) => told_number(answers, b'R', text_number_of(*r)),
     }
 }
 

@@ -1,4 +1,5 @@
 -- Tape and promises are one: record by record the page is that of the promises' run, and the lines are those of its answers.
+use Rattle.std.specs.Prelude.{Option, Some, None, Result, Ok, Err, ⊤}
 use Prim.Native.Nat.{ℕ, zero, suc, ◌+◌, ◌≤◌}
 use native.Mathlib.Omega.{arith}
 use borrow.Author.Tests.{le-leb}
@@ -10,12 +11,7 @@ use lib.Ieee.{Float}
 use lib.IntN.{ℤ, pos, negsuc, neg_ℤ}
 use lib.ListN.{length, take, drop, get_or, get_elem?, length-append}
 use lib.Seq.{take-add, take_all}
-use Rattle.float.specs.declared.BoxNumber.{BoxNumber}
-use Rattle.float.specs.declared.CalculatorAnswer.{CalculatorAnswer}
-use Rattle.float.specs.declared.Done.{Done}
 use Rattle.float.specs.declared.FloatContext.{FloatContext}
-use Rattle.float.specs.declared.Innermost.{Innermost}
-use Rattle.float.specs.declared.PlaceAnswer.{PlaceAnswer}
 use Rattle.float.specs.declared.Refusal.{Refusal}
 use Rattle.float.specs.Refuse.{number_of}
 use Rattle.float.specs.Page.{Page, page_of}
@@ -23,15 +19,15 @@ use Rattle.float.specs.Place.{Call, cleaned, place_of, width_of}
 use Rattle.float.specs.Calculator.{add_of}
 use Rattle.demands.specs.Runs.{Act, Accepted, Run, noted, started, next, run, after}
 use Rattle.demands.proofs.Promises.{refused_box, refused_width, refused_add}
-use Rattle.tape.specs.declared.record.Read.{Read}
 use Rattle.tape.specs.declared.record.Record.{Record}
-use Rattle.tape.specs.declared.step.Calculator.{Calculator}
 use Rattle.tape.specs.declared.step.State.{State}
 use Rattle.tape.specs.Bytes.{float, decimal, row}
 use Rattle.tape.specs.Record.{body_len, place_record, read_of}
 use Rattle.tape.specs.Lines.{done_line, place_line, refused_line}
 use Rattle.tape.specs.Tape.{fresh_state, started as started_by, add_to, step_of, run as run_tape, lines_of, broken, broken_line, runs, page_after, returned_box}
 use Rattle.tied.specs.Acts.{calls_in, records, records_of, state_after, lines_from, RecordAt, line_at, PLine, RLine, state_at, run_at, calls_next, whole_run}
+use Rattle.float.specs.declared.Position.{Position}
+use Rattle.float.specs.declared.FloatIntrinsicWidthCalculator.{FloatIntrinsicWidthCalculator}
 
 -- ---- the page
 
@@ -75,10 +71,10 @@ runs_state zero t s = refl
 runs_state (suc f) [] s = refl
 runs_state (suc f) (k ∷ b) s = go (read_of k b) (λ q. runs_state f (drop (body_len k) b) (step_of s q).after)
   where
-    go : (x : Read) → ((q : Record) → runs f (drop (body_len k) b) (step_of s q).after ≡ state_after (step_of s q).after (records f (drop (body_len k) b)))
-        → elim x [ Read.Whole q ↦ runs f (drop (body_len k) b) (step_of s q).after | Read.Broken ↦ s ] ≡ state_after s (elim x [ Read.Whole q ↦ q ∷ records f (drop (body_len k) b) | Read.Broken ↦ [] ])
-    go (Read.Whole q) h = h q
-    go Read.Broken h = refl
+    go : (x : Option Record) → ((q : Record) → runs f (drop (body_len k) b) (step_of s q).after ≡ state_after (step_of s q).after (records f (drop (body_len k) b)))
+        → elim x [ Some q ↦ runs f (drop (body_len k) b) (step_of s q).after | None ↦ s ] ≡ state_after s (elim x [ Some q ↦ q ∷ records f (drop (body_len k) b) | None ↦ [] ])
+    go (Some q) h = h q
+    go None h = refl
 
 -- the page after a tape, of which C asks, is that of the promises after all its calls
 pub page_after_tape : (t : List ℕ) → length t ≤ 65536 → page_after t ≡ (whole_run t).struct
@@ -98,11 +94,11 @@ run_lines (suc f) i (k ∷ b) s = go (read_of k b) (λ q. run_lines f j c (step_
     c : List ℕ
     c = drop (body_len k) b
 
-    go : (x : Read) → ((q : Record) → run_tape f j c (step_of s q).after ≡ flatten (lines_from (step_of s q).after (records f c)) ++ broken f j c)
-        → elim x [ Read.Whole q ↦ (step_of s q).line ++ run_tape f j c (step_of s q).after | Read.Broken ↦ row 84 (decimal i ∷ []) ]
-        ≡ flatten (lines_from s (elim x [ Read.Whole q ↦ q ∷ records f c | Read.Broken ↦ [] ])) ++ elim x [ Read.Whole q ↦ broken f j c | Read.Broken ↦ row 84 (decimal i ∷ []) ]
-    go (Read.Whole q) h = ap (λ (x : List ℕ). (step_of s q).line ++ x) (h q) ∙ sym (append_assoc (step_of s q).line _ _)
-    go Read.Broken h = refl
+    go : (x : Option Record) → ((q : Record) → run_tape f j c (step_of s q).after ≡ flatten (lines_from (step_of s q).after (records f c)) ++ broken f j c)
+        → elim x [ Some q ↦ (step_of s q).line ++ run_tape f j c (step_of s q).after | None ↦ row 84 (decimal i ∷ []) ]
+        ≡ flatten (lines_from s (elim x [ Some q ↦ q ∷ records f c | None ↦ [] ])) ++ elim x [ Some q ↦ broken f j c | None ↦ row 84 (decimal i ∷ []) ]
+    go (Some q) h = ap (λ (x : List ℕ). (step_of s q).line ++ x) (h q) ∙ sym (append_assoc (step_of s q).line _ _)
+    go None h = refl
 
 -- the lines of a tape are those of its records, in order; then T where it breaks off
 pub tape_lines : (t : List ℕ) → length t ≤ 65536 → lines_of t ≡ flatten (lines_from fresh_state (records_of t)) ++ broken_line t
@@ -151,17 +147,17 @@ longer : (g : List Accepted) (a : Accepted) → g ≡ g ++ a ∷ [] → ⊥
 longer g a e = let l = ap length e in let m = length-append g (a ∷ []) in omega arith
 
 module _ (g : List Accepted) (c : Call) (p : Page) where
-  noted_exactly : (d : PlaceAnswer) → (PLine (place_line d)) ↔ ((a : Accepted) × (noted d c p g ≡ g ++ a ∷ []))
+  noted_exactly : (d : Result Position Refusal) → (PLine (place_line d)) ↔ ((a : Accepted) × (noted d c p g ≡ g ++ a ∷ []))
   unfolding place_line refused_line
-  noted_exactly (PlaceAnswer.At x y k) = (λ l. (_, refl), λ a. omega arith)
-  noted_exactly (PlaceAnswer.Refused n) = (λ l. absurd (omega arith), λ a. absurd (longer g a.0 a.1))
+  noted_exactly (Ok s) = (λ l. (_, refl), λ a. omega arith)
+  noted_exactly (Err n) = (λ l. absurd (omega arith), λ a. absurd (longer g a.0 a.1))
 
-  noted_as : (d : PlaceAnswer) (a : Accepted) → noted d c p g ≡ g ++ a ∷ [] → (k : ℕ) × (place_line d ≡ row 80 (float a.x ∷ float a.y ∷ decimal k ∷ [])) × (a.call ≡ c)
+  noted_as : (d : Result Position Refusal) (a : Accepted) → noted d c p g ≡ g ++ a ∷ [] → (k : ℕ) × (place_line d ≡ row 80 (float a.x ∷ float a.y ∷ decimal k ∷ [])) × (a.call ≡ c)
   unfolding place_line
-  noted_as (PlaceAnswer.At x y k) a e =
+  noted_as (Ok s) a e =
       let z = head-eq_of_cons-eq (append_cancel_left g _ _ e) in
-      (k, ap (λ (b : Accepted). row 80 (float b.x ∷ float b.y ∷ decimal k ∷ [])) z, sym (ap (λ (b : Accepted). b.call) z))
-  noted_as (PlaceAnswer.Refused n) a e = absurd (longer g a e)
+      (s.steps, ap (λ (b : Accepted). row 80 (float b.x ∷ float b.y ∷ decimal s.steps ∷ [])) z, sym (ap (λ (b : Accepted). b.call) z))
+  noted_as (Err n) a e = absurd (longer g a e)
 
 module _ (t : List ℕ) (n : ℕ) (c : Call) (e : RecordAt t n (place_record c)) where
   -- the line of a placement is the answer of the one that the promises speak of
@@ -184,25 +180,25 @@ module _ (t : List ℕ) (n : ℕ) (c : Call) (e : RecordAt t n (place_record c))
 -- ---- refusals
 
 -- a line R comes of a refusal
-done_refused : (l : ℕ) (d : Done) → (RLine (l ∷ []) → ⊥) → RLine (done_line l d) → (n : Refusal) × (d ≡ Done.Refused n)
+done_refused : (l : ℕ) (d : Result ⊤ Refusal) → (RLine (l ∷ []) → ⊥) → RLine (done_line l d) → (n : Refusal) × (d ≡ Err n)
 unfolding done_line
-done_refused l Done.Accepted h e = absurd (h e)
-done_refused l (Done.Refused n) h e = (n, refl)
+done_refused l (Ok _) h e = absurd (h e)
+done_refused l (Err n) h e = (n, refl)
 
-place_refused : (d : PlaceAnswer) → RLine (place_line d) → (n : Refusal) × (d ≡ PlaceAnswer.Refused n)
+place_refused : (d : Result Position Refusal) → RLine (place_line d) → (n : Refusal) × (d ≡ Err n)
 unfolding place_line
-place_refused (PlaceAnswer.At x y k) e = absurd (omega arith)
-place_refused (PlaceAnswer.Refused n) e = (n, refl)
+place_refused (Ok s) e = absurd (omega arith)
+place_refused (Err n) e = (n, refl)
 
-start_left : (c : Calculator) (a : CalculatorAnswer) → RLine (started_by c a).line → (started_by c a).after ≡ c
+start_left : (c : Option FloatIntrinsicWidthCalculator) (a : Result FloatIntrinsicWidthCalculator Refusal) → RLine (started_by c a).line → (started_by c a).after ≡ c
 unfolding started_by
-start_left c (CalculatorAnswer.Started new) e = absurd (omega arith)
-start_left c (CalculatorAnswer.Refused n) e = refl
+start_left c (Ok new) e = absurd (omega arith)
+start_left c (Err n) e = refl
 
-add_left : (c : Calculator) (w : Float) (side clear : ℕ) → RLine (add_to c w side clear).line → (add_to c w side clear).after ≡ c
+add_left : (c : Option FloatIntrinsicWidthCalculator) (w : Float) (side clear : ℕ) → RLine (add_to c w side clear).line → (add_to c w side clear).after ≡ c
 unfolding add_to
-add_left Calculator.None w side clear e = refl
-add_left (Calculator.One c) w side clear e = let r = done_refused 65 (add_of c w side clear).answer (λ h. omega arith) e in ap Calculator.One (refused_add c w side clear r.0 r.1)
+add_left None w side clear e = refl
+add_left (Some c) w side clear e = let r = done_refused 65 (add_of c w side clear).answer (λ h. omega arith) e in ap Some (refused_add c w side clear r.0 r.1)
 
 -- a record whose line is R leaves page and calculator, whatever they are
 pub refused_record : (s : State) (q : Record) → RLine (step_of s q).line → (step_of s q).after ≡ s
@@ -217,8 +213,8 @@ refused_record s (Record.Place side clear w h y l x) e =
     ap (λ (p : FloatContext). record { page = p; calculator = s.calculator }) (refused_box s.page c r.0 r.1)
 refused_record s (Record.Content y l r clear a) e = refl
 refused_record s (Record.Bfc y l r ml mr d clear a) e = refl
-refused_record s (Record.Start mode) e = ap (λ (c : Calculator). record { page = s.page; calculator = c }) (start_left s.calculator _ e)
-refused_record s (Record.Add w side clear) e = ap (λ (c : Calculator). record { page = s.page; calculator = c }) (add_left s.calculator w side clear e)
+refused_record s (Record.Start mode) e = ap (λ (c : Option FloatIntrinsicWidthCalculator). record { page = s.page; calculator = c }) (start_left s.calculator _ e)
+refused_record s (Record.Add w side clear) e = ap (λ (c : Option FloatIntrinsicWidthCalculator). record { page = s.page; calculator = c }) (add_left s.calculator w side clear e)
 refused_record s Record.Result e = refl
 
 refused_at : (s : State) (qs : List Record) (n : ℕ) → RLine (get_or (lines_from s qs) n []) → state_after s (take (suc n) qs) ≡ state_after s (take n qs)
@@ -249,7 +245,7 @@ refusal_below Refusal.BandsFull = refl
 refusal_below Refusal.NoCalculator = refl
 refusal_below Refusal.NoRoom = refl
 
-pub returned_number : (a : Innermost) (k : ℕ) → returned_box a ≡ pos k → a ≡ Innermost.Answer (BoxNumber.At k)
-returned_number (Innermost.Answer (BoxNumber.At j)) k e = ap (λ (n : ℕ). Innermost.Answer (BoxNumber.At n)) (let z = ap above e in omega arith)
-returned_number (Innermost.Answer BoxNumber.None) k e = let z = ap above e in absurd (omega arith)
-returned_number (Innermost.Refused n) k e = let z = ap above e in absurd (omega (arith, refusal_below n))
+pub returned_number : (a : Result (Option ℕ) Refusal) (k : ℕ) → returned_box a ≡ pos k → a ≡ Ok (Some k)
+returned_number (Ok (Some j)) k e = ap (λ (n : ℕ). Ok (Some n)) (let z = ap above e in omega arith)
+returned_number (Ok None) k e = let z = ap above e in absurd (omega arith)
+returned_number (Err n) k e = let z = ap above e in absurd (omega (arith, refusal_below n))

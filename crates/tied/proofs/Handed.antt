@@ -1,4 +1,5 @@
 -- What a tape hands in is f32, whatever its bytes: any four of them are one.
+use Rattle.std.specs.Prelude.{Some, None}
 use Prim.Native.Nat.{ℕ, zero, suc}
 use mathlib.Core.Bool.{Bool, true, false, ◌&&◌, cond}
 use mathlib.Core.List.{List, [], ◌∷◌, ◌++◌, flat_map}
@@ -7,7 +8,6 @@ use lib.Ieee.{binary32}
 use lib.Ieee.Bits.{of_bits-fits}
 use lib.ListN.{length, take, drop}
 use Rattle.demands.specs.Runs.{Each, handed, Handed, F32}
-use Rattle.tape.specs.declared.record.Read.{Read}
 use Rattle.tape.specs.declared.record.Record.{Record}
 use Rattle.tape.specs.Bytes.{f32_at}
 use Rattle.tape.specs.Record.{body_lens, body_len, record_of, read_of}
@@ -61,7 +61,7 @@ records_f32 zero t = tt
 records_f32 (suc f) [] = tt
 records_f32 (suc f) (k ∷ b) = go (records_f32 f (drop (body_len k) b)) (ltb k (length body_lens) && leb (body_len k) (length b))
   where
-    go : Each Hands (records f (drop (body_len k) b)) → (x : Bool) → Each Hands (elim (cond x (Read.Whole (record_of k b)) Read.Broken) [ Read.Whole q ↦ q ∷ records f (drop (body_len k) b) | Read.Broken ↦ [] ])
+    go : Each Hands (records f (drop (body_len k) b)) → (x : Bool) → Each Hands (elim (cond x (Some (record_of k b)) None) [ Some q ↦ q ∷ records f (drop (body_len k) b) | None ↦ [] ])
     go h true = (record_f32 k b, h)
     go h false = tt
 

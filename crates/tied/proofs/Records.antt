@@ -1,4 +1,5 @@
 -- The records of a tape, by induction over the fuel: more fuel reads no more of them, and more bytes leave the first of them as they are.
+use Rattle.std.specs.Prelude.{Some, None}
 use Prim.Native.Nat.{ℕ, zero, suc, ◌+◌, ◌≤◌, ◌<◌}
 use native.Mathlib.Omega.{arith}
 use borrow.Author.Tests.{leb-true, leb-false}
@@ -9,7 +10,6 @@ use lib.Dec.{ltb, leb}
 use lib.ListN.{length, take, drop, get_or, length-drop, length-append, get_or-append}
 use lib.Seq.{take-append-le, drop-append-le}
 use Rattle.demands.specs.Runs.{after}
-use Rattle.tape.specs.declared.record.Read.{Read}
 use Rattle.tape.specs.declared.record.Record.{Record}
 use Rattle.tape.specs.Bytes.{f32_at}
 use Rattle.tape.specs.Record.{body_lens, body_len, after_at, mode_of, record_of, read_of}
@@ -26,7 +26,7 @@ same_records (suc f) zero (k ∷ b) h e = absurd (omega arith)
 same_records (suc f) (suc g) [] h e = refl
 same_records (suc f) (suc g) (k ∷ b) h e =
     let n = length-drop (body_len k) b in
-    ap (λ (l : List Record). elim (read_of k b) [ Read.Whole q ↦ q ∷ l | Read.Broken ↦ [] ]) (same_records f g (drop (body_len k) b) (omega arith) (omega arith))
+    ap (λ (l : List Record). elim (read_of k b) [ Some q ↦ q ∷ l | None ↦ [] ]) (same_records f g (drop (body_len k) b) (omega arith) (omega arith))
 
 -- each record takes a byte at least: whatever more fuel there is, the records are the same
 pub fuel_lasts : (f : ℕ) (t : List ℕ) → length t ≤ f → records f t ≡ records_of t
@@ -77,8 +77,8 @@ more_records (suc f) (k ∷ b) u h =
     go : (x y z : Bool) → leb (body_len k) (length b) ≡ y → leb (body_len k) (length (b ++ u)) ≡ z
         → (qs : List Record) × (records f (drop (body_len k) b ++ u) ≡ records f (drop (body_len k) b) ++ qs)
         → (qs : List Record)
-        × ((elim (cond (x && z) (Read.Whole (record_of k (b ++ u))) Read.Broken) [ Read.Whole q ↦ q ∷ records f (drop (body_len k) (b ++ u)) | Read.Broken ↦ [] ])
-        ≡ (elim (cond (x && y) (Read.Whole (record_of k b)) Read.Broken) [ Read.Whole q ↦ q ∷ records f (drop (body_len k) b) | Read.Broken ↦ [] ]) ++ qs)
+        × ((elim (cond (x && z) (Some (record_of k (b ++ u))) None) [ Some q ↦ q ∷ records f (drop (body_len k) (b ++ u)) | None ↦ [] ])
+        ≡ (elim (cond (x && y) (Some (record_of k b)) None) [ Some q ↦ q ∷ records f (drop (body_len k) b) | None ↦ [] ]) ++ qs)
     go true true true ey ez r =
         let l = leb-true (body_len k) (length b) ey in
         let a = record_more b u k l in

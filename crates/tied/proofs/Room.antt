@@ -1,4 +1,5 @@
 -- The lines of a tape are at most eleven bytes for each of its bytes: on every page that a tape reaches, steps and band numbers have few digits.
+use Rattle.std.specs.Prelude.{Option, Some, None, Result, Ok, Err}
 use Prim.Native.Nat.{ℕ, zero, suc, ◌+◌, ◌*◌, ◌≤◌, ◌<◌}
 use native.Mathlib.Omega.{arith}
 use borrow.Author.Tests.{le-leb, leb-true, leb-false}
@@ -11,15 +12,11 @@ use lib.Ieee.{Float, binary32, to_bits}
 use lib.IntN.{pos}
 use lib.ListN.{length, drop, length-append, length-drop}
 use Rattle.f32_laws.proofs.Tests.{both}
-use Rattle.float.specs.declared.BandNumber.{BandNumber}
-use Rattle.float.specs.declared.BfcAnswer.{BfcAnswer}
 use Rattle.float.specs.declared.BfcSlot.{BfcSlot}
 use Rattle.float.specs.declared.Clear.{Clear}
-use Rattle.float.specs.declared.ContentAnswer.{ContentAnswer}
 use Rattle.float.specs.declared.ContentSlot.{ContentSlot}
 use Rattle.float.specs.declared.Direction.{Direction}
 use Rattle.float.specs.declared.FloatContext.{FloatContext}
-use Rattle.float.specs.declared.PlaceAnswer.{PlaceAnswer}
 use Rattle.float.specs.declared.Refusal.{Refusal}
 use Rattle.float.specs.declared.slot.Sought.{Sought}
 use Rattle.float.specs.Page.{Page, page_of, front}
@@ -28,7 +25,6 @@ use Rattle.float.specs.Slot.{active, landed, seek, content_slot, ContentCall, co
 use Rattle.demands.specs.Runs.{Each, handed, Handed, F32}
 use Rattle.demands.proofs.Adding.{check_ways}
 use Rattle.demands.proofs.Promises.{bands_lie, steps_at_most}
-use Rattle.tape.specs.declared.record.Read.{Read}
 use Rattle.tape.specs.declared.record.Record.{Record}
 use Rattle.tape.specs.declared.step.State.{State}
 use Rattle.tape.specs.Bytes.{float, decimal, decimals, fields, row}
@@ -40,6 +36,7 @@ use Rattle.tape.proofs.Lengths.{length_refused, by_kind, length_offset}
 use Rattle.tied.specs.Acts.{calls_in, state_after, room_for}
 use Rattle.tied.proofs.Handed.{Hands, record_f32, each_append, each_made}
 use Rattle.tied.proofs.Calls.{page_after_lem}
+use Rattle.float.specs.declared.Position.{Position}
 
 -- ---- a line whose fields have at most eight bytes
 fields_short : (fs : List (List ℕ)) → Each (λ f. length f ≤ 8) fs → length (fields fs) ≤ 9 * length fs + 1
@@ -56,17 +53,17 @@ unfolding decimal
 decimal_short k h = let d = length_digits 10 (decimals k k) k in let m = at_most 2 k k (omega arith) in omega arith
 
 -- ---- P: a page has at most 96 bands, so it is placed in fewer than 1,000 steps
-place_short : (d : PlaceAnswer) → ((x y : Float) (k : ℕ) → d ≡ PlaceAnswer.At x y k → k < 1000) → length (place_line d) ≤ 47
+place_short : (d : Result Position Refusal) → ((s : Position) → d ≡ Ok s → s.steps < 1000) → length (place_line d) ≤ 47
 unfolding place_line
-place_short (PlaceAnswer.At x y k) h = let e = fields_short (float x ∷ float y ∷ decimal k ∷ []) (float_short x, (float_short y, (decimal_short k (h x y k refl), tt))) in omega arith
-place_short (PlaceAnswer.Refused n) h = let r = length_refused n in omega arith
+place_short (Ok s) h = let e = fields_short (float s.x ∷ float s.y ∷ decimal s.steps ∷ []) (float_short s.x, (float_short s.y, (decimal_short s.steps (h s refl), tt))) in omega arith
+place_short (Err n) h = let r = length_refused n in omega arith
 
 -- ---- C and B: the number of a band is below the number of bands
-band_short : (i : ℕ) → i < 1000 → length (band (BandNumber.At i)) ≤ 8
+band_short : (i : ℕ) → i < 1000 → length (band (Some i)) ≤ 8
 unfolding band
 band_short i h = decimal_short i h
 
-none_short : length (band BandNumber.None) ≤ 8
+none_short : length (band None) ≤ 8
 unfolding band
 none_short = omega arith
 
@@ -75,33 +72,33 @@ Lands (Sought.Quiet y) = Unit {0}
 Lands (Sought.Past y) = Unit {0}
 Lands (Sought.At i y) = i < 1000
 
-content_fields : (s : ContentSlot) → length (band s.band) ≤ 8 → length (content_line (ContentAnswer.Slot s)) ≤ 47
+content_fields : (s : ContentSlot) → length (band s.band) ≤ 8 → length (content_line (Ok s)) ≤ 47
 unfolding content_line
 content_fields s h = let e = fields_short (band s.band ∷ float s.x ∷ float s.y ∷ float s.width ∷ []) (h, (float_short s.x, (float_short s.y, (float_short s.width, tt)))) in omega arith
 
-bfc_fields : (s : BfcSlot) → length (band s.band) ≤ 8 → length (bfc_line (BfcAnswer.Slot s)) ≤ 47
+bfc_fields : (s : BfcSlot) → length (band s.band) ≤ 8 → length (bfc_line (Ok s)) ≤ 47
 unfolding bfc_line
 bfc_fields s h =
     let e = fields_short (band s.band ∷ float s.x ∷ float s.y ∷ float s.border_width ∷ float s.stretch_width ∷ []) (h, (float_short s.x, (float_short s.y, (float_short s.border_width, (float_short s.stretch_width, tt))))) in
     omega arith
 
-content_slot_lem : (p : Page) (i : _) (s : Sought) → Lands s → length (content_line (ContentAnswer.Slot (content_slot p i s))) ≤ 47
+content_slot_lem : (p : Page) (i : _) (s : Sought) → Lands s → length (content_line (Ok (content_slot p i s))) ≤ 47
 unfolding content_slot
 content_slot_lem p i (Sought.Quiet y) h = content_fields _ none_short
 content_slot_lem p i (Sought.Past y) h = content_fields _ none_short
 content_slot_lem p i (Sought.At k y) h = content_fields _ (band_short k h)
 
-bfc_slot_lem : (p : Page) (d : Direction) (i : _) (s : Sought) → Lands s → length (bfc_line (BfcAnswer.Slot (bfc_slot p d i s))) ≤ 47
+bfc_slot_lem : (p : Page) (d : Direction) (i : _) (s : Sought) → Lands s → length (bfc_line (Ok (bfc_slot p d i s))) ≤ 47
 unfolding bfc_slot
 bfc_slot_lem p d i (Sought.Quiet y) h = bfc_fields _ none_short
 bfc_slot_lem p d i (Sought.Past y) h = bfc_fields _ none_short
 bfc_slot_lem p d i (Sought.At k y) h = bfc_fields _ (band_short k h)
 
-content_refused : (n : Refusal) → length (content_line (ContentAnswer.Refused n)) ≤ 47
+content_refused : (n : Refusal) → length (content_line (Err n)) ≤ 47
 unfolding content_line
 content_refused n = let r = length_refused n in omega arith
 
-bfc_refused : (n : Refusal) → length (bfc_line (BfcAnswer.Refused n)) ≤ 47
+bfc_refused : (n : Refusal) → length (bfc_line (Err n)) ≤ 47
 unfolding bfc_line
 bfc_refused n = let r = length_refused n in omega arith
 
@@ -109,7 +106,7 @@ module _ (p : Page) (b : length p.bands ≤ 96) where
   landed_on : (i : ℕ) (y : Float) → Lands (landed p.bands i y)
   landed_on i y = both Lands (ltb i (length p.bands)) (λ t. let h = ltb→lt i (length p.bands) t in omega arith) (λ t. tt)
 
-  seek_lands : (c : Clear) (a : BandNumber) (y : Float) → Lands (seek p c a y)
+  seek_lands : (c : Clear) (a : Option ℕ) (y : Float) → Lands (seek p c a y)
   unfolding seek
   seek_lands c a y = both Lands (active p.bands y) (λ t. landed_on _ _) (λ t. tt)
 
@@ -134,7 +131,7 @@ module _ (qs : List Record) (f : Each Hands qs) where
   few_steps : (c : Call) → length (place_line (place_of (state_after fresh_state qs).page c).answer) ≤ 47
   few_steps c =
       subst (λ (p : FloatContext). length (place_line (place_of p c).answer) ≤ 47) (sym (page_after_lem qs))
-      (place_short _ (λ x y k e. let n = (bands_lie (flat_map calls_in qs) calls_f32).1 in let m = steps_at_most (flat_map calls_in qs) c x y k e in omega arith))
+      (place_short _ (λ s e. let n = (bands_lie (flat_map calls_in qs) calls_f32).1 in let m = steps_at_most (flat_map calls_in qs) c s.x s.y s.steps e in omega arith))
 
   -- a line of numbers
   long_line : (k : ℕ) (b : List ℕ) → 15 ≤ body_len k → length (step_of (state_after fresh_state qs) (record_of k b)).line ≤ 47
@@ -168,7 +165,7 @@ run_short (suc f) i (k ∷ b) qs h g = go (ltb k (length body_lens)) (leb (body_
     c = drop (body_len k) b
 
     go : (x y : Bool) → leb (body_len k) (length b) ≡ y → (j + length c ≤ 65536 → length (run_tape f j c (state_after fresh_state (qs ++ record_of k b ∷ []))) ≤ room_for c)
-        → length {A = ℕ} (elim (cond (x && y) (Read.Whole (record_of k b)) Read.Broken) [ Read.Whole q ↦ (step_of s q).line ++ run_tape f j c (step_of s q).after | Read.Broken ↦ row 84 (decimal i ∷ []) ]) ≤ room_for (k ∷ b)
+        → length {A = ℕ} (elim (cond (x && y) (Some (record_of k b)) None) [ Some q ↦ (step_of s q).line ++ run_tape f j c (step_of s q).after | None ↦ row 84 (decimal i ∷ []) ]) ≤ room_for (k ∷ b)
     go true true e r =
         let n = leb-true (body_len k) (length b) e in
         let d = length-drop (body_len k) b in

@@ -1,4 +1,5 @@
 -- The promises of every tape, whatever its bytes: each cites the promise of the calls that its first n records make. To read them takes the definitions and no other proof.
+use Rattle.std.specs.Prelude.{Option, Some, Ok}
 use Prim.Native.Nat.{ℕ, suc, ◌+◌, ◌≤◌, ◌<◌}
 use mathlib.Core.Bool.{true, false, not}
 use mathlib.Core.Path.{◌≡◌, sym, ap, ◌∙◌}
@@ -7,12 +8,8 @@ use lib.Dec.{T}
 use lib.Ieee.{Float, inf, binary32, add, sub, le}
 use lib.IntN.{pos}
 use lib.ListN.{length, get_or}
-use Rattle.float.specs.declared.BandNumber.{BandNumber}
-use Rattle.float.specs.declared.Bottom.{Bottom}
-use Rattle.float.specs.declared.BoxNumber.{BoxNumber}
 use Rattle.float.specs.declared.FloatContext.{FloatContext}
 use Rattle.float.specs.declared.FloatDirection.{FloatDirection}
-use Rattle.float.specs.declared.PlaceAnswer.{PlaceAnswer}
 use Rattle.float.specs.Refuse.{side_of}
 use Rattle.float.specs.Bands.{same_side, has_float, box_on, lead, none}
 use Rattle.float.specs.Page.{page_of}
@@ -46,7 +43,7 @@ unfolding run
 tape_two_bands_more t n c e = rw (run_one t n (place_record c) e) (two_bands_more (calls_at t n) c)
 
 -- on m bands it takes at most 2m steps
-pub tape_steps_at_most : (t : List ℕ) (n : ℕ) (c : Call) (x y : Float) (k : ℕ) → (place_of (run_at t n).struct c).answer ≡ PlaceAnswer.At x y k → k ≤ length (bands_in (run_at t n)) + length (bands_in (run_at t n))
+pub tape_steps_at_most : (t : List ℕ) (n : ℕ) (c : Call) (x y : Float) (k : ℕ) → (place_of (run_at t n).struct c).answer ≡ Ok (record { x = x; y = y; steps = k }) → k ≤ length (bands_in (run_at t n)) + length (bands_in (run_at t n))
 tape_steps_at_most t n = steps_at_most (calls_at t n)
 
 -- rule 5: no box is put higher than an earlier one
@@ -61,13 +58,13 @@ tape_rule_1 t n = rule_1 (calls_at t n) (tape_f32 t n)
 pub tape_number_with_mark : (t : List ℕ) (n : ℕ) → Each (λ b. (s : FloatDirection) → present (box_on s b) ≡ has_float s b) (bands_in (run_at t n))
 tape_number_with_mark t n = number_with_mark (calls_at t n)
 
-pub tape_number_names : (t : List ℕ) (n : ℕ) → Each (λ b. (s : FloatDirection) (k : ℕ) → box_on s b ≡ BoxNumber.At k → Names (run_at t n).accepted s b k) (bands_in (run_at t n))
+pub tape_number_names : (t : List ℕ) (n : ℕ) → Each (λ b. (s : FloatDirection) (k : ℕ) → box_on s b ≡ Some k → Names (run_at t n).accepted s b k) (bands_in (run_at t n))
 tape_number_names t n = number_names (calls_at t n)
 
 -- what C is told of the page after the tape: a number from 0 up is that of such a box
 pub tape_innermost : (t : List ℕ) → length t ≤ 65536 → (i s k : ℕ) → innermost_after t i s ≡ pos k → Names (whole_run t).accepted (side_of s) (get_or (bands_in (whole_run t)) i none) k
 unfolding innermost_after
-tape_innermost t h i s k e = innermost_told (calls_at t (length (records_of t))) i s k (returned_number _ k (ap (λ (p : FloatContext). returned_box (innermost (page_of p) (BandNumber.At i) s)) (sym (page_after_tape t h)) ∙ e))
+tape_innermost t h i s k e = innermost_told (calls_at t (length (records_of t))) i s k (returned_number _ k (ap (λ (p : FloatContext). returned_box (innermost (page_of p) (Some i) s)) (sym (page_after_tape t h)) ∙ e))
 
 -- a call with any clear is the one without clear at min_y raised to the cleared bottoms: a placement, and a question that passes the early answer
 pub tape_clear_placement : (t : List ℕ) (n : ℕ) (c : Call) → F32 c.min_y → Raises (page_in (run_at t n)) c.clear (cleaned c).min_y → place_of (run_at t n).struct c ≡ place_of (run_at t n).struct (unclear (page_in (run_at t n)) (cleaned c))
@@ -85,14 +82,14 @@ tape_clear_bfc t n c = clear_bfc (calls_at t n) c (tape_f32 t n)
 pub tape_depth_largest : (t : List ℕ) (n : ℕ) → Largest (run_at t n).accepted (depth_of (page_in (run_at t n)))
 tape_depth_largest t n = depth_largest (calls_at t n) (tape_f32 t n)
 
-pub tape_depth_never_falls : (t : List ℕ) (n k : ℕ) → Each Stays (calls_next t n k) → (x : Float) → depth_of (page_in (run_at t n)) ≡ Bottom.At x → AtOrAbove x (depth_of (page_in (run_at t (n + k))))
+pub tape_depth_never_falls : (t : List ℕ) (n k : ℕ) → Each Stays (calls_next t n k) → (x : Float) → depth_of (page_in (run_at t n)) ≡ Some x → AtOrAbove x (depth_of (page_in (run_at t (n + k))))
 tape_depth_never_falls t n k h = rw (run_next t n k) (depth_never_falls (calls_at t n) (calls_next t n k) (tape_f32 t n) (next_f32 t n k) h)
 
 pub tape_ends_above_depth : (t : List ℕ) (n : ℕ) → Each (λ b. AtOrAbove b.end (depth_of (page_in (run_at t n)))) (bands_in (run_at t n))
 tape_ends_above_depth t n = ends_above_depth (calls_at t n) (tape_f32 t n)
 
 -- and what C is told of the page after the tape
-pub tape_depth : (t : List ℕ) → length t ≤ 65536 → (d : Bottom) → Largest (whole_run t).accepted d → depth_after t ≡ returned_height d
+pub tape_depth : (t : List ℕ) → length t ≤ 65536 → (d : Option Float) → Largest (whole_run t).accepted d → depth_after t ≡ returned_height d
 unfolding depth_after
 tape_depth t h d l = ap (λ (p : FloatContext). returned_height (depth_of (page_of p))) (page_after_tape t h) ∙ ap returned_height (sym (depth_alone (calls_at t (length (records_of t))) (tape_f32 t (length (records_of t))) d l))
 

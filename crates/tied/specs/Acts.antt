@@ -1,10 +1,9 @@
 -- A tape as a sequence of calls: its records, the calls that they make, the line of each, and what stands after the first n. Definitions only.
-use Rattle.std.specs.Prelude.{ℕ, zero, suc, ◌*◌, ◌≡◌, length, take, drop, get_or}
+use Rattle.std.specs.Prelude.{ℕ, zero, suc, ◌*◌, ◌≡◌, length, take, drop, get_or, Some, None}
 use Rattle.std.proofs.Math.Option.{some}
 use mathlib.Core.List.{List, [], ◌∷◌, foldl, flat_map}
 use Rattle.std.proofs.Math.ListN.{get_elem?}
 use Rattle.demands.specs.Runs.{Act, new_page, width, box, Run, after}
-use Rattle.tape.specs.declared.record.Read.{Read}
 use Rattle.tape.specs.declared.record.Record.{Record}
 use Rattle.tape.specs.declared.step.State.{State}
 use Rattle.tape.specs.Record.{body_len, read_of}
@@ -27,7 +26,7 @@ calls_in Record.Result = []
 unfoldable pub records : ℕ → List ℕ → List Record
 records zero t = []
 records (suc f) [] = []
-records (suc f) (k ∷ body) = elim (read_of k body) [ Read.Whole q ↦ q ∷ records f (drop (body_len k) body) | Read.Broken ↦ [] ]
+records (suc f) (k ∷ body) = elim (read_of k body) [ Some q ↦ q ∷ records f (drop (body_len k) body) | None ↦ [] ]
 
 abbrev pub records_of : List ℕ → List Record
 records_of t = records (length t) t

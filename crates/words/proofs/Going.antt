@@ -1,14 +1,15 @@
 -- The lines set so far and those that the rest will give are the definition's.
+use Rattle.std.specs.Prelude.{Result, Ok, Err}
 use Prim.Native.Nat.{ℕ, zero, suc, ◌+◌, ◌-◌, ◌≤◌, ◌<◌}
 use mathlib.Core.Path.{◌≡◌, refl, sym, ap, ap₂, ◌∙◌, subst}
-use mathlib.Core.Bool.{Bool, true, false, not, ◌||◌, cond, true≢false}
+use mathlib.Core.Bool.{Bool, true, false, not, ◌||◌, cond, true≢false, or-true}
 use mathlib.Core.List.{List, [], ◌∷◌, ◌++◌, append_assoc, append-nil, map}
 use native.Mathlib.Numerals.{add-one}
 use native.Mathlib.Omega.{arith}
 use lib.Dec.{T, eqb, eqb→eq}
-use lib.Ieee.{Float, binary32, add, le, fits}
+use lib.Ieee.{Float, binary32, le, fits}
 use lib.Ieee.Fits.{and_l, and_r}
-use lib.ListN.{length, drop, set, replicate, length-append, length-drop, length-replicate}
+use lib.ListN.{length, drop, set, replicate, length-append, length-drop, length-replicate, length-map}
 use lib.Seq.{drop-cons, set-append_seam}
 use Rattle.float.specs.declared.Segment.{Segment}
 use Rattle.float.specs.Numbers.{size, offset, most, plus_zero, finite, within, allowed, all_finite, all_allowed, in_reach}
@@ -19,14 +20,14 @@ use Rattle.demands.proofs.Laws.{val_fin, ins_fin}
 use Rattle.demands.proofs.Input.{known_one}
 use Rattle.words.specs.declared.Line.{Line}
 use Rattle.words.specs.declared.Lines.{Lines}
-use Rattle.words.specs.declared.SetAnswer.{SetAnswer}
 use Rattle.words.specs.declared.TextRefusal.{TextRefusal}
 use Rattle.words.specs.declared.beside.Span.{Span}
-use Rattle.words.specs.declared.check.TextCheck.{TextCheck}
 use Rattle.words.specs.Text.{Text, cleaned, max_words, check_of}
-use Rattle.words.specs.Lines.{bottom_at, span_at, room_of, first_fits, more, moved_to, too_far, moves, takes, turn_at, Told, lines, refused, before, set_from, set_all, set_on, answered, no_line}
+use Rattle.words.specs.Lines.{bottom_at, span_at, room_of, first_fits, more, moved_to, too_far, moves, takes, turn_at, Told, lines, refused, before, set_from, set_all, set_on, answered, no_line, no_lines}
 use Rattle.words.specs.Laid.{taken}
 use Rattle.words.proofs.Checked.{passed}
+use Rattle.words.proofs.Setting.{by_turn}
+use Rattle.std.proofs.lemmas.List.{drop-map}
 use Rattle.words.proofs.Judging.{finite_join, allowed_join}
 
 -- ---- lines before others
@@ -88,39 +89,11 @@ pub record Going (w : Float) (bs : List Segment) (t : Text) (array : List Line) 
   pub most : length t.widths ≤ max_words
   pub same : set_all w bs t ≡ onto done (set_from turns w bs t first y (map plus_zero rest))
 
-map_length : (l : List Float) → length (map plus_zero l) ≡ length l
-map_length [] = refl
-map_length (x ∷ l) = ap suc (map_length l)
-
-map_drop : (n : ℕ) (l : List Float) → map plus_zero (drop n l) ≡ drop n (map plus_zero l)
-map_drop zero l = refl
-map_drop (suc n) [] = refl
-map_drop (suc n) (x ∷ l) = map_drop n l
-
-pub going_starts : (w : Float) (bs : List Segment) (t : Text) (ws : List Float) {a : List Line} {n : ℕ} → t.widths ≡ map plus_zero ws → length t.widths ≤ max_words → a ≡ replicate max_words no_line → n ≡ length bs → Going w bs t a 0 0 t.min_y ws (n + length ws)
+pub going_starts : (w : Float) (bs : List Segment) (t : Text) (ws : List Float) {s : Lines} {n : ℕ} → t.widths ≡ map plus_zero ws → length t.widths ≤ max_words → s ≡ no_lines → n ≡ length bs → Going w bs t s.lines s.count 0 t.min_y ws (n + length ws)
 unfolding front
 going_starts w bs t ws e h p q =
-    let k : length t.widths ≡ length ws = ap length e ∙ map_length ws in
-    record { done = []; holds = p; number = refl; few = omega arith; words = omega (arith, k); most = h; same = onto_nil (set_all w bs t) ∙ ap (λ l. onto [] (set_from (length bs + length t.widths) w bs t 0 t.min_y l)) e ∙ ap (λ n. onto [] (set_from n w bs t 0 t.min_y (map plus_zero ws))) (ap₂ ◌+◌ (sym q) k) }
-
--- not all are taken that are not there
-more_few : (room gap sum : Float) (vs : List Float) → more room gap sum vs ≤ length vs
-unfolding more
-more_few room gap sum [] = omega arith
-more_few room gap sum (v ∷ vs) = go (le (add binary32 (add binary32 sum gap) v) room) (more_few room gap (add binary32 (add binary32 sum gap) v) vs)
-  where
-    go : (b : Bool) → more room gap (add binary32 (add binary32 sum gap) v) vs ≤ length vs → (elim b [ true ↦ suc (more room gap (add binary32 (add binary32 sum gap) v) vs) | false ↦ 0 ]) ≤ suc (length vs)
-    go true h = omega (arith, h)
-    go false h = omega arith
-
-pub taken_few : (e : Span) (room gap : Float) (ws : List Float) {n : ℕ} → n ≡ taken e room gap (map plus_zero ws) → n ≤ length ws
-unfolding taken
-taken_few e room gap [] h = omega (arith, h)
-taken_few e room gap (v ∷ vs) h = go (first_fits e room (plus_zero v)) h (more_few room gap (plus_zero v) (map plus_zero vs)) (map_length vs)
-  where
-    go : {n : ℕ} (b : Bool) → n ≡ cond b (suc (more room gap (plus_zero v) (map plus_zero vs))) 0 → more room gap (plus_zero v) (map plus_zero vs) ≤ length (map plus_zero vs) → length (map plus_zero vs) ≡ length vs → n ≤ suc (length vs)
-    go true h k m = omega (arith, h, k, m)
-    go false h k m = omega (arith, h)
+    let k : length t.widths ≡ length ws = ap length e ∙ length-map ws plus_zero in
+    record { done = []; holds = ap (λ s. s.lines) p; number = ap (λ s. s.count) p; few = omega (arith, ap (λ s. s.count) p); words = omega (arith, k); most = h; same = onto_nil (set_all w bs t) ∙ ap (λ l. onto [] (set_from (length bs + length t.widths) w bs t 0 t.min_y l)) e ∙ ap (λ n. onto [] (set_from n w bs t 0 t.min_y (map plus_zero ws))) (ap₂ ◌+◌ (sym q) k) }
 
 none_left : (f : ℕ) (w : Float) (bs : List Segment) (t : Text) (k : ℕ) (y : Float) (l : List Float) → length l ≤ 0 → set_from f w bs t k y (map plus_zero l) ≡ lines []
 unfolding set_from
@@ -139,17 +112,7 @@ unfolding set_from
 out f w bs t k y [] h b e r = absurd (omega (arith, h))
 out zero w bs t k y (x ∷ l) h b e r = refl
 out (suc f) w bs t k y (x ∷ l) h true e r = absurd (omega (arith, eqb→eq (suc f) 0 (or_false (eqb (suc f) 0) r)))
-out (suc f) w bs t k y (x ∷ l) h false e r = rw (far_turn w bs t y (plus_zero x) (map plus_zero l) (sym e), set_from)
-
--- a turn
-goes_on : (f : ℕ) (w : Float) (bs : List Segment) (t : Text) (k : ℕ) (y z : Float) (v : Float) (vs : List Float) → turn_at w bs t y v vs ≡ moves z → set_from (suc f) w bs t k y (v ∷ vs) ≡ set_from f w bs t k z (v ∷ vs)
-unfolding set_from
-goes_on f w bs t k y z v vs e = rw (e, set_from)
-
-sets_one : (f : ℕ) (w : Float) (bs : List Segment) (t : Text) (k : ℕ) (y x : Float) (n : ℕ) (v : Float) (vs : List Float) → turn_at w bs t y v vs ≡ takes x n
-    → set_from (suc f) w bs t k y (v ∷ vs) ≡ before (record { x = x; y = y; first = k; count = suc n }) (set_from f w bs t (k + suc n) (bottom_at t y) (drop n vs))
-unfolding set_from
-sets_one f w bs t k y x n v vs e = rw (e, set_from)
+out (suc f) w bs t k y (x ∷ l) h false e r = by_turn w bs t f k y (plus_zero x) (map plus_zero l) too_far (far_turn w bs t y (plus_zero x) (map plus_zero l) (sym e))
 
 module _ {w : Float} {bs : List Segment} {t : Text} {array : List Line} {count first : ℕ} {y : Float} {rest : List Float} {turns : ℕ} (g : Going w bs t array count first y rest turns) where
   -- the array has a place for one more line
@@ -157,7 +120,7 @@ module _ {w : Float} {bs : List Segment} {t : Text} {array : List Line} {count f
   going_room h = omega (arith, h, g.few, g.words, g.most)
 
   -- no words are left
-  pub going_done : length rest ≤ 0 → ◌≡◌ {A = Lines} (record { answer = SetAnswer.Set; lines = array; count = count }) (answered (set_all w bs t))
+  pub going_done : length rest ≤ 0 → ◌≡◌ {A = Result Lines TextRefusal} (Ok (record { lines = array; count = count })) (answered (set_all w bs t))
   unfolding answered
   going_done h = rw (g.holds, g.number) (sym (ap answered (g.same ∙ ap (onto g.done) (none_left turns w bs t first y rest h) ∙ ap lines (append-nil g.done))))
 
@@ -173,13 +136,12 @@ module _ {w : Float} {bs : List Segment} {t : Text} {array : List Line} {count f
         step : (f : ℕ) (l : List Float) → 0 < f → 0 < length l → n ≡ taken e (room_of w e) t.gap (map plus_zero l) → set_from f w bs t first y (map plus_zero l) ≡ set_from (f - 1) w bs t first z (map plus_zero l)
         step zero l p s h = absurd (omega (arith, p))
         step (suc f) [] p s h = absurd (omega (arith, s))
-        step (suc f) (v ∷ vs) p s h = goes_on f w bs t first y z (plus_zero v) (map plus_zero vs) (moves_turn w bs t y e same reach (plus_zero v) (map plus_zero vs) (sym q ∙ h) ∙ ap moves (sym m)) ∙ ap (λ k. set_from k w bs t first z (plus_zero v ∷ map plus_zero vs)) (omega arith)
+        step (suc f) (v ∷ vs) p s h = by_turn w bs t f first y (plus_zero v) (map plus_zero vs) (moves z) (moves_turn w bs t y e same reach (plus_zero v) (map plus_zero vs) (sym q ∙ h) ∙ ap moves (sym m)) ∙ ap (λ k. set_from k w bs t first z (plus_zero v ∷ map plus_zero vs)) (omega arith)
 
     -- the line is set
-    pub going_takes : 0 < turns → 0 < n → Going w bs t (set array count (record { x = e.left; y = y; first = first; count = n })) (count + 1) (first + n) (bottom_at t y) (drop n rest) (turns - 1)
-    going_takes p q =
+    pub going_takes : 0 < turns → 0 < n → n ≤ length rest → Going w bs t (set array count (record { x = e.left; y = y; first = first; count = n })) (count + 1) (first + n) (bottom_at t y) (drop n rest) (turns - 1)
+    going_takes p q k =
         let line : Line = record { x = e.left; y = y; first = first; count = n } in
-        let k = taken_few e (room_of w e) t.gap rest has in
         let r = going_room some in
         record {
           done = g.done ++ line ∷ [];
@@ -196,8 +158,8 @@ module _ {w : Float} {bs : List Segment} {t : Text} {array : List Line} {count f
         step (suc f) [] n p s q h = absurd (omega (arith, s))
         step (suc f) (v ∷ vs) zero p s q h = absurd (omega (arith, q))
         step (suc f) (v ∷ vs) (suc n) p s q h =
-            sets_one f w bs t first y e.left n (plus_zero v) (map plus_zero vs) (takes_turn w bs t y e same reach (plus_zero v) (map plus_zero vs) n h)
-            ∙ ap₂ (λ k l. before (record { x = e.left; y = y; first = first; count = suc n }) (set_from k w bs t (first + suc n) (bottom_at t y) l)) (omega arith) (sym (map_drop n vs))
+            by_turn w bs t f first y (plus_zero v) (map plus_zero vs) (takes e.left n) (takes_turn w bs t y e same reach (plus_zero v) (map plus_zero vs) n h)
+            ∙ ap₂ (λ k l. before (record { x = e.left; y = y; first = first; count = suc n }) (set_from k w bs t (first + suc n) (bottom_at t y) l)) (omega arith) (drop-map plus_zero n vs)
 
 pub going_rest : {w : Float} {bs : List Segment} {t : Text} {a : List Line} {k f n : ℕ} {y : Float} {l m : List Float} → Going w bs t a k f y l n → l ≡ m → Going w bs t a k f y m n
 going_rest {w} {bs} {t} {a} {k} {f} {n} {y} g e = subst (λ r. Going w bs t a k f y r n) e g
@@ -206,11 +168,7 @@ going_rest {w} {bs} {t} {a} {k} {f} {n} {y} g e = subst (λ r. Going w bs t a k 
 pub goes : (turns : ℕ) (b r : Bool) → b ≡ r → (eqb turns 0 || not b) ≡ false → (0 < turns) × (r ≡ true)
 goes zero b r e h = absurd (true≢false h)
 goes (suc n) true r e h = (omega arith, sym e)
-goes (suc n) false r e h = absurd (true≢false (sym (or_true (eqb (suc n) 0)) ∙ h))
-  where
-    or_true : (a : Bool) → (a || true) ≡ true
-    or_true true = refl
-    or_true false = refl
+goes (suc n) false r e h = absurd (true≢false (sym (or-true (eqb (suc n) 0)) ∙ h))
 
 -- what the check lets through
 pub record Sound (t : Text) : Type 0 where
@@ -219,7 +177,7 @@ pub record Sound (t : Text) : Type 0 where
   pub height : Fin binary32 t.height
   pub up : T (le zero+ t.height)
 
-pub sound : (t : Text) → check_of t ≡ TextCheck.Passed → fits binary32 t.height ≡ true → fits binary32 t.min_y ≡ true → Sound t
+pub sound : (t : Text) → check_of t ≡ Ok tt → fits binary32 t.height ≡ true → fits binary32 t.min_y ≡ true → Sound t
 unfolding all_finite all_allowed within
 sound t c f g =
     let p = passed t c in
@@ -234,13 +192,13 @@ sound t c f g =
 
 -- ---- the check decides
 
-pub on_passed : (w : Float) (bs : List Segment) (t u : Text) → u ≡ cleaned t → check_of u ≡ TextCheck.Passed → set_all w bs u ≡ set_on w bs t
+pub on_passed : (w : Float) (ls bs : List Segment) (t u : Text) → ls ≡ bs → u ≡ cleaned t → check_of u ≡ Ok tt → set_all w ls u ≡ set_on w bs t
 unfolding set_on
-on_passed w bs t u e p = ap (set_all w bs) e ∙ ap (λ c. elim c [ TextCheck.Passed ↦ set_all w bs (cleaned t) | TextCheck.Refused n ↦ refused n ]) (sym (ap check_of (sym e) ∙ p))
+on_passed w ls bs t u h e p = ap₂ (set_all w) h e ∙ ap (λ c. elim c [ Ok _ ↦ set_all w bs (cleaned t) | Err n ↦ refused n ]) (sym (ap check_of (sym e) ∙ p))
 
-pub on_refused : (w : Float) (bs : List Segment) (t u : Text) (n : TextRefusal) → u ≡ cleaned t → check_of u ≡ TextCheck.Refused n → refused n ≡ set_on w bs t
+pub on_refused : (w : Float) (bs : List Segment) (t u : Text) (n : TextRefusal) → u ≡ cleaned t → check_of u ≡ Err n → refused n ≡ set_on w bs t
 unfolding set_on
-on_refused w bs t u n e p = ap (λ c. elim c [ TextCheck.Passed ↦ set_all w bs (cleaned t) | TextCheck.Refused n ↦ refused n ]) (sym (ap check_of (sym e) ∙ p))
+on_refused w bs t u n e p = ap (λ c. elim c [ Ok _ ↦ set_all w bs (cleaned t) | Err n ↦ refused n ]) (sym (ap check_of (sym e) ∙ p))
 
 -- a text whose numbers were cleaned one by one
 pub cleaned_is : (t : Text) {g h y l r : Float} → g ≡ plus_zero t.gap → h ≡ plus_zero t.height → y ≡ plus_zero t.min_y → l ≡ plus_zero t.left → r ≡ plus_zero t.right → ◌≡◌ {A = Text} (record { widths = map plus_zero t.widths; gap = g; height = h; min_y = y; left = l; right = r }) (cleaned t)

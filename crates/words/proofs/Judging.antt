@@ -1,39 +1,25 @@
 -- The refusals before any line: widths judged one at a time, then with the other numbers.
-use Prim.Native.Nat.{ℕ, zero, suc, ◌+◌, ◌-◌, ◌<◌, ◌≤◌}
+use Rattle.std.specs.Prelude.{Result, Ok, Err, ⊤}
+use Prim.Native.Nat.{ℕ, ◌+◌, ◌-◌, ◌<◌, ◌≤◌}
 use mathlib.Core.Path.{◌≡◌, refl, sym, ap, ap₂, ◌∙◌}
-use mathlib.Core.Bool.{Bool, true, false, ◌&&◌, cond}
+use mathlib.Core.Bool.{Bool, ◌&&◌, cond, and-true, and_assoc}
 use mathlib.Core.List.{List, [], ◌∷◌, ◌++◌, map}
 use native.Mathlib.Numerals.{add-one}
 use native.Mathlib.Omega.{arith}
 use lib.Dec.{leb}
 use lib.Ieee.{Float, nan, eq}
-use lib.ListN.{length, take, drop, get_or, length-drop}
+use lib.ListN.{length, take, drop, get_or, length-drop, length-map, drop_of_length-le}
 use lib.Seq.{take_all, drop-cons}
 use Rattle.f32_laws.specs.Numbers.{zero+}
 use Rattle.float.specs.Numbers.{Given, size, offset, value, plus_zero, finite, within, most, allowed, all_finite, all_allowed}
 use Rattle.words.specs.declared.TextRefusal.{TextRefusal}
 use Rattle.words.specs.declared.check.Judged.{Judged}
-use Rattle.words.specs.declared.check.TextCheck.{TextCheck}
 use Rattle.words.specs.Laid.{Judges}
 use Rattle.words.specs.Text.{Text, check_of}
 
-and_true : (a : Bool) → (a && true) ≡ a
-and_true true = refl
-and_true false = refl
-
-and_assoc : (a b c : Bool) → (a && (b && c)) ≡ ((a && b) && c)
-and_assoc true b c = refl
-and_assoc false b c = refl
-
--- the rest of a list: one and those after it, or none
+-- the rest of a list: one and those after it
 pub rest_here : {A : Type 0} (l : List A) (i : ℕ) (d : A) → i < length l → drop i l ≡ get_or l i d ∷ drop (i + 1) l
 rest_here l i d h = drop-cons l i d h ∙ ap (λ n. get_or l i d ∷ drop n l) (sym (add-one i))
-
-pub rest_none : {A : Type 0} (l : List A) (i : ℕ) → length l ≤ i → drop i l ≡ []
-rest_none [] zero h = refl
-rest_none [] (suc i) h = refl
-rest_none (x ∷ l) zero h = absurd (omega (arith, h))
-rest_none (x ∷ l) (suc i) h = rest_none l i (omega (arith, h))
 
 -- a part that goes to the end of a slice, as the machine has it
 pub part_is : {A : Type 0} (n : ℕ) (l : List A) → take (length l - n) (drop n l) ≡ drop n l
@@ -60,22 +46,18 @@ module _ {ws : List Float} {f a : Bool} {i : ℕ} (s : Judging ws f a i) where
       let e = ap sizes (rest_here ws i nan h) in
       record {
         within = omega (arith, h);
-        finite = s.finite ∙ ap (λ l. f && all_finite l) e ∙ ap (λ x. f && (x && all_finite (sizes (drop (i + 1) ws)))) (sym (q ∙ ap finite p)) ∙ and_assoc f g (all_finite (sizes (drop (i + 1) ws)));
-        allowed = s.allowed ∙ ap (λ l. a && all_allowed l) e ∙ ap (λ x. a && (x && all_allowed (sizes (drop (i + 1) ws)))) (sym (r ∙ ap (within zero+ most) p)) ∙ and_assoc a b (all_allowed (sizes (drop (i + 1) ws)));
+        finite = s.finite ∙ ap (λ l. f && all_finite l) e ∙ ap (λ x. f && (x && all_finite (sizes (drop (i + 1) ws)))) (sym (q ∙ ap finite p)) ∙ sym (and_assoc f g (all_finite (sizes (drop (i + 1) ws))));
+        allowed = s.allowed ∙ ap (λ l. a && all_allowed l) e ∙ ap (λ x. a && (x && all_allowed (sizes (drop (i + 1) ws)))) (sym (r ∙ ap (within zero+ most) p)) ∙ sym (and_assoc a b (all_allowed (sizes (drop (i + 1) ws))));
       }
-
-map_length : (ws : List Float) → length (map plus_zero ws) ≡ length ws
-map_length [] = refl
-map_length (w ∷ ws) = ap suc (map_length ws)
 
 pub judge_ends : {ws : List Float} {f a : Bool} {i : ℕ} → Judging ws f a i → length ws ≤ i → Judges (map plus_zero ws) (length ws) (record { finite = f; allowed = a })
 unfolding all_finite all_allowed
 judge_ends {ws} {f} {a} {i} s h =
-    let e = ap sizes (rest_none ws i h) in
+    let e = ap sizes (drop_of_length-le ws h) in
     record {
-      count = sym (map_length ws);
-      finite = sym (s.finite ∙ ap (λ l. f && all_finite l) e ∙ and_true f);
-      allowed = sym (s.allowed ∙ ap (λ l. a && all_allowed l) e ∙ and_true a);
+      count = sym (length-map ws plus_zero);
+      finite = sym (s.finite ∙ ap (λ l. f && all_finite l) e ∙ and-true f);
+      allowed = sym (s.allowed ∙ ap (λ l. a && all_allowed l) e ∙ and-true a);
     }
 
 -- ---- the other numbers
@@ -83,12 +65,12 @@ judge_ends {ws} {f} {a} {i} s h =
 pub finite_join : (gs hs : List Given) → all_finite (gs ++ hs) ≡ (all_finite gs && all_finite hs)
 unfolding all_finite
 finite_join [] hs = refl
-finite_join (g ∷ gs) hs = ap (λ x. finite (value g) && x) (finite_join gs hs) ∙ and_assoc (finite (value g)) (all_finite gs) (all_finite hs)
+finite_join (g ∷ gs) hs = ap (λ x. finite (value g) && x) (finite_join gs hs) ∙ sym (and_assoc (finite (value g)) (all_finite gs) (all_finite hs))
 
 pub allowed_join : (gs hs : List Given) → all_allowed (gs ++ hs) ≡ (all_allowed gs && all_allowed hs)
 unfolding all_allowed
 allowed_join [] hs = refl
-allowed_join (g ∷ gs) hs = ap (λ x. allowed g && x) (allowed_join gs hs) ∙ and_assoc (allowed g) (all_allowed gs) (all_allowed hs)
+allowed_join (g ∷ gs) hs = ap (λ x. allowed g && x) (allowed_join gs hs) ∙ sym (and_assoc (allowed g) (all_allowed gs) (all_allowed hs))
 
 -- f and a tell of all of the numbers
 pub record Tells (gs : List Given) (f a : Bool) : Type 0 where
@@ -97,14 +79,14 @@ pub record Tells (gs : List Given) (f a : Bool) : Type 0 where
 
 pub one : {g : Given} {f a : Bool} → f ≡ finite (value g) → a ≡ allowed g → Tells (g ∷ []) f a
 unfolding all_finite all_allowed
-one {g} p q = record { finite = p ∙ sym (and_true (finite (value g))); allowed = q ∙ sym (and_true (allowed g)) }
+one {g} p q = record { finite = p ∙ sym (and-true (finite (value g))); allowed = q ∙ sym (and-true (allowed g)) }
 
 pub more : {g : Given} {gs : List Given} {f a f' a' : Bool} → f ≡ finite (value g) → a ≡ allowed g → Tells gs f' a' → Tells (g ∷ gs) (f && f') (a && a')
 unfolding all_finite all_allowed
 more p q r = record { finite = ap₂ (λ x y. x && y) p r.finite; allowed = ap₂ (λ x y. x && y) q r.allowed }
 
-pub checked : (t : Text) {n : ℕ} {w : Judged} {f a : Bool} {v : TextCheck} → Judges t.widths n w → Tells (size t.gap ∷ size t.height ∷ offset t.min_y ∷ size t.left ∷ size t.right ∷ []) f a
-    → v ≡ cond (w.finite && f) (cond (w.allowed && a) (cond (leb n 512) (cond (eq t.height zero+) (TextCheck.Refused TextRefusal.NoLineHeight) TextCheck.Passed) (TextCheck.Refused TextRefusal.TooManyWords)) (TextCheck.Refused TextRefusal.OutOfLimits)) (TextCheck.Refused TextRefusal.NotFinite)
+pub checked : (t : Text) {n : ℕ} {w : Judged} {f a : Bool} {v : Result ⊤ TextRefusal} → Judges t.widths n w → Tells (size t.gap ∷ size t.height ∷ offset t.min_y ∷ size t.left ∷ size t.right ∷ []) f a
+    → v ≡ cond (w.finite && f) (cond (w.allowed && a) (cond (leb n 512) (cond (eq t.height zero+) (Err TextRefusal.NoLineHeight) (Ok tt)) (Err TextRefusal.TooManyWords)) (Err TextRefusal.OutOfLimits)) (Err TextRefusal.NotFinite)
     → v ≡ check_of t
 unfolding check_of
 checked t {n} {w} {f} {a} {v} j s e =

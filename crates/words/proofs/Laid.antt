@@ -1,18 +1,18 @@
--- Bands as numbers: what is read of the numbers at i is the band i, and of the numbers from 4k on the bands from k on. By going down both lists.
-use Prim.Native.Nat.{ℕ, zero, suc, ◌+◌, ◌-◌, ◌*◌, ◌/◌, ◌<◌, ◌≤◌, min}
-use mathlib.Core.Path.{◌≡◌, refl, sym, ap, ap₂, ◌∙◌, subst}
+use Rattle.std.specs.Prelude.{Ok, Err}
+-- Bands as numbers: of each four numbers their band, which is what is read of them all; and bands laid, and read back. By going down both lists.
+use Prim.Native.Nat.{ℕ, zero, suc, ◌+◌, ◌-◌, ◌*◌, ◌/◌, ◌<◌, ◌≤◌}
+use mathlib.Core.Path.{◌≡◌, refl, sym, ap, ap₂, ◌∙◌}
 use mathlib.Core.Bool.{true, false, cond}
 use mathlib.Core.List.{List, [], ◌∷◌, ◌++◌, map}
-use native.Mathlib.Decide.{dec_le}
-use native.Mathlib.Nat.{le_of_suc-le-suc, not-suc-le-zero}
-use native.Mathlib.Numerals.{add-one}
+use native.Mathlib.Numerals.{add-one, unary_clauses}
 use native.Mathlib.Omega.{arith}
 use denote.Laws.{Is}
 use denote.Struct.Declared.{row}
 use mir.Val.{Val}
+use Rattle.std.specs.Simd.{first_chunks}
 use lib.Ieee.{Float, nan, lt}
-use lib.ListN.{length, take, drop, get_or, set, length-append}
-use lib.Seq.{lt-length-set, length-take-le, take_all, take_at, take-suc, sets, length-sets, sets-eq}
+use lib.ListN.{length, take, drop, get_or, length-map}
+use lib.Seq.{take_all, take-suc}
 use Rattle.f32_laws.specs.Numbers.{larger}
 use Rattle.float.specs.declared.FloatContext.{FloatContext}
 use Rattle.float.specs.declared.Segment.{Segment}
@@ -21,119 +21,32 @@ use Rattle.float.specs.Page.{page_of}
 use Rattle.float.specs.contracts.FloatContext.{the_type}
 use Rattle.words.specs.declared.TextRefusal.{TextRefusal}
 use Rattle.words.specs.declared.beside.Span.{Span}
-use Rattle.words.specs.declared.check.TextCheck.{TextCheck}
 use Rattle.words.specs.Text.{Text, cleaned, check_of}
 use Rattle.words.specs.Lines.{bottom_at, touches, joined, span_over, span_at, next_start, moved_to, Turn, too_far, moves, takes, turn_at, Told, refused, before, set_from, set_all, set_on, set_words}
-use Rattle.words.specs.Laid.{laid, read}
+use Rattle.words.specs.Laid.{laid, read, bands_of}
 
-four : (k : ℕ) → 4 * suc k ≡ suc (suc (suc (suc (4 * k))))
-four k = omega arith
+-- ---- the bands of each four numbers
 
-pub read_length : (xs : List Float) → length (read xs) ≡ length xs / 4
+-- those that are read
+pub bands_read : (xs : List Float) → bands_of (first_chunks 4 (length xs / 4) xs) ≡ read xs
 unfolding read
-read_length [] = refl
-read_length (a ∷ []) = refl
-read_length (a ∷ b ∷ []) = refl
-read_length (a ∷ b ∷ c ∷ []) = refl
-read_length (a ∷ b ∷ c ∷ d ∷ xs) = omega (arith, read_length xs)
-
--- the four numbers of a band
-pub record Reads (xs : List Float) (i : ℕ) (s : Segment) : Type 0 where
-  pub start : get_or xs (4 * i) nan ≡ s.start
-  pub end : get_or xs (4 * i + 1) nan ≡ s.end
-  pub left : get_or xs (4 * i + 2) nan ≡ s.left
-  pub right : get_or xs (4 * i + 3) nan ≡ s.right
-
-pub reads : (xs : List Float) (i : ℕ) → i < length xs / 4 → Reads xs i (get_or (read xs) i none)
-unfolding read
-reads xs i h = go xs i (subst (λ n. i < n) (sym (read_length xs)) h)
-  where
-    at : (xs : List Float) (j k : ℕ) (a b c d : Float) → j ≡ suc (suc (suc (suc k))) → get_or (a ∷ b ∷ c ∷ d ∷ xs) j nan ≡ get_or xs k nan
-    at xs j k a b c d e = ap (λ n. get_or (a ∷ b ∷ c ∷ d ∷ xs) n nan) e
-
-    go : (xs : List Float) (i : ℕ) → i < length (read xs) → Reads xs i (get_or (read xs) i none)
-    go [] i h = absurd (not-suc-le-zero h)
-    go (a ∷ []) i h = absurd (not-suc-le-zero h)
-    go (a ∷ b ∷ []) i h = absurd (not-suc-le-zero h)
-    go (a ∷ b ∷ c ∷ []) i h = absurd (not-suc-le-zero h)
-    go (a ∷ b ∷ c ∷ d ∷ xs) zero h = record { start = refl; end = refl; left = refl; right = refl }
-    go (a ∷ b ∷ c ∷ d ∷ xs) (suc i) h =
-        let r = go xs i (le_of_suc-le-suc h) in
-        record {
-          start = at xs (4 * suc i) (4 * i) a b c d (omega arith) ∙ r.start;
-          end = at xs (4 * suc i + 1) (4 * i + 1) a b c d (omega arith) ∙ r.end;
-          left = at xs (4 * suc i + 2) (4 * i + 2) a b c d (omega arith) ∙ r.left;
-          right = at xs (4 * suc i + 3) (4 * i + 3) a b c d (omega arith) ∙ r.right;
-        }
-
-pub read_drop : (k : ℕ) (xs : List Float) → read (drop (4 * k) xs) ≡ drop k (read xs)
-unfolding read
-read_drop zero xs = refl
-read_drop (suc k) [] = ap (λ n. read (drop n [])) (four k)
-read_drop (suc k) (a ∷ []) = ap (λ n. read (drop n (a ∷ []))) (four k)
-read_drop (suc k) (a ∷ b ∷ []) = ap (λ n. read (drop n (a ∷ b ∷ []))) (four k)
-read_drop (suc k) (a ∷ b ∷ c ∷ []) = ap (λ n. read (drop n (a ∷ b ∷ c ∷ []))) (four k)
-read_drop (suc k) (a ∷ b ∷ c ∷ d ∷ xs) = ap (λ n. read (drop n (a ∷ b ∷ c ∷ d ∷ xs))) (four k) ∙ read_drop k xs
+bands_read [] = refl
+bands_read (a ∷ []) = refl
+bands_read (a ∷ b ∷ []) = refl
+bands_read (a ∷ b ∷ c ∷ []) = refl
+bands_read (a ∷ b ∷ c ∷ d ∷ xs) = let e : length (a ∷ b ∷ c ∷ d ∷ xs) / 4 ≡ suc (length xs / 4) = omega arith in ap (λ n. bands_of (first_chunks 4 n (a ∷ b ∷ c ∷ d ∷ xs))) e ∙ ap (λ l. bare a b c d ∷ l) (bands_read xs)
 
 -- the last band's end, or none
-pub end_none : (y : Float) (xs : List Float) → length xs / 4 ≡ 0 → y ≡ last_end y (read xs)
+pub end_none : (y : Float) (cs : List (List Float)) → length cs < 1 → y ≡ last_end y (bands_of cs)
 unfolding last_end
-end_none y xs h = empty (read xs) (read_length xs ∙ h)
-  where
-    empty : (l : List Segment) → length l ≡ 0 → y ≡ last_end y l
-    empty [] h = refl
-    empty (s ∷ l) h = absurd (omega (arith, h))
+end_none y [] h = refl
+end_none y (c ∷ cs) h = absurd (omega (arith, h))
 
-last_is : (y : Float) (s : Segment) (l : List Segment) → last_end y (s ∷ l) ≡ (get_or (s ∷ l) (length l) none).end
+pub end_last : (y : Float) (cs : List (List Float)) → 1 ≤ length cs → get_or (get_or cs (length cs - 1) []) 1 nan ≡ last_end y (bands_of cs)
 unfolding last_end
-last_is y s [] = refl
-last_is y s (t ∷ l) = last_is s.end t l
-
-pub end_last : (y : Float) (xs : List Float) → ¬ (length xs / 4 ≡ 0) → get_or xs (4 * (length xs / 4) - 3) nan ≡ last_end y (read xs)
-end_last y xs h = last (read xs) refl
-  where
-    last : (l : List Segment) → read xs ≡ l → get_or xs (4 * (length xs / 4) - 3) nan ≡ last_end y (read xs)
-    last [] e = absurd (h (sym (read_length xs) ∙ ap length e))
-    last (s ∷ l) e =
-        let n : length xs / 4 ≡ suc (length l) = sym (read_length xs) ∙ ap length e in
-        ap (λ i. get_or xs i nan) (omega arith) ∙ (reads xs (length l) (omega arith)).end ∙ ap (λ m. (get_or m (length l) none).end) e ∙ sym (ap (last_end y) e ∙ last_is y s l)
-
--- ---- four places set, one after the other
-
-module _ (l : List Float) (k : ℕ) (a b c d : Float) where
-  as_sets : set (set (set (set l k a) (k + 1) b) (k + 2) c) (k + 3) d ≡ sets l k (a ∷ b ∷ c ∷ d ∷ [])
-  as_sets =
-      ap (λ n. set (set (set (set l k a) n b) (k + 2) c) (k + 3) d) one
-      ∙ ap (λ n. set (set (set (set l k a) (suc k) b) n c) (k + 3) d) two
-      ∙ ap (λ n. set (set (set (set l k a) (suc k) b) (suc (suc k)) c) n d) three
-    where
-      one : k + 1 ≡ suc k
-      one = omega arith
-
-      two : k + 2 ≡ suc (suc k)
-      two = omega arith
-
-      three : k + 3 ≡ suc (suc (suc k))
-      three = omega arith
-
-  pub four_long : length (set (set (set (set l k a) (k + 1) b) (k + 2) c) (k + 3) d) ≡ length l
-  four_long = ap length as_sets ∙ length-sets l k (a ∷ b ∷ c ∷ d ∷ [])
-
-module _ (l : List Float) (i : ℕ) where
-  pub place_2 : (a : Float) → i < length l / 4 → 4 * i + 1 < length (set l (4 * i) a)
-  place_2 a h = lt-length-set l (4 * i) a (omega (arith, h))
-
-  pub place_3 : (a b : Float) → i < length l / 4 → 4 * i + 2 < length (set (set l (4 * i) a) (4 * i + 1) b)
-  place_3 a b h = lt-length-set (set l (4 * i) a) (4 * i + 1) b (lt-length-set l (4 * i) a (omega (arith, h)))
-
-  pub place_4 : (a b c : Float) → i < length l / 4 → 4 * i + 3 < length (set (set (set l (4 * i) a) (4 * i + 1) b) (4 * i + 2) c)
-  place_4 a b c h = lt-length-set (set (set l (4 * i) a) (4 * i + 1) b) (4 * i + 2) c (lt-length-set (set l (4 * i) a) (4 * i + 1) b (lt-length-set l (4 * i) a (omega (arith, h))))
-
-  pub four_laid : (a b c d : Float) → 4 * suc i ≤ length l → take (4 * suc i) (set (set (set (set l (4 * i) a) (4 * i + 1) b) (4 * i + 2) c) (4 * i + 3) d) ≡ take (4 * i) l ++ a ∷ b ∷ c ∷ d ∷ []
-  four_laid a b c d h =
-      let vs = a ∷ b ∷ c ∷ d ∷ [] in
-      let e : length (take (4 * i) l ++ vs) ≡ 4 * suc i = length-append (take (4 * i) l) vs ∙ ap (λ n. n + 4) (length-take-le (4 * i) l (omega (arith, h))) ∙ omega arith in
-      ap (take (4 * suc i)) (as_sets l (4 * i) a b c d ∙ sets-eq vs l (4 * i) (omega (arith, h))) ∙ take_at (take (4 * i) l ++ vs) (drop (4 * i + length vs) l) (4 * suc i) e
+end_last y [] h = absurd (omega (arith, h))
+end_last y (c ∷ []) h = refl
+end_last y (c ∷ d ∷ cs) h = simp unary_clauses (simp unary_clauses at (end_last (get_or c 1 nan) (d ∷ cs) (omega arith)))
 
 -- ---- bands laid and read back: a line sees no more of a band than its four numbers
 
@@ -160,10 +73,6 @@ unfolding last_end bared
 last_bared x [] = refl
 last_bared x (s ∷ l) = last_bared s.end l
 
-length_bared : (l : List Segment) → length (map bared l) ≡ length l
-length_bared [] = refl
-length_bared (s ∷ l) = ap suc (length_bared l)
-
 module _ (w : Float) (l : List Segment) (t : Text) where
   turn_bared : (y v : Float) (vs : List Float) → turn_at w (map bared l) t y v vs ≡ turn_at w l t y v vs
   unfolding turn_at span_at moved_to
@@ -186,13 +95,13 @@ module _ (w : Float) (l : List Segment) (t : Text) where
 
 pub set_laid : (w : Float) (l : List Segment) (t : Text) → set_on w (read (laid l)) t ≡ set_on w l t
 unfolding set_on
-set_laid w l t = ap (λ m. set_on w m t) (read_laid l) ∙ ap (λ r. elim (check_of (cleaned t)) [ TextCheck.Passed ↦ r | TextCheck.Refused n ↦ refused n ]) all
+set_laid w l t = ap (λ m. set_on w m t) (read_laid l) ∙ ap (λ r. elim (check_of (cleaned t)) [ Ok _ ↦ r | Err n ↦ refused n ]) all
   where
     c : Text
     c = cleaned t
 
     all : set_all w (map bared l) c ≡ set_all w l c
-    all = from_bared w l c (length (map bared l) + length c.widths) 0 c.min_y c.widths ∙ ap (λ n. set_from (n + length c.widths) w l c 0 c.min_y c.widths) (length_bared l)
+    all = from_bared w l c (length (map bared l) + length c.widths) 0 c.min_y c.widths ∙ ap (λ n. set_from (n + length c.widths) w l c 0 c.min_y c.widths) (length-map l bared)
 
 -- ---- laying one after the other
 
@@ -219,11 +128,9 @@ lays_one {bs} {xs} {i} h k ys s e p =
 pub bands_96 : (p : FloatContext) (v : List Val) → Is (row the_type) p v → length p.bands ≡ 96
 bands_96 p v g = g.1.1.1.0.1.0.1
 
--- all live bands are laid
-pub set_page : (p : FloatContext) (xs : List Float) (n : ℕ) (t : Text) → length p.bands ≡ 96 → n ≡ min p.count 96 → Lays p.bands xs n → set_on p.width (read (take (4 * n) xs)) t ≡ set_words (page_of p) t
+-- a page's live bands are all laid
+pub set_page : (p : FloatContext) (l : List Segment) (xs : List Float) (i : ℕ) (t : Text) → l ≡ take p.count p.bands → length l ≤ i → i ≤ length l → Lays l xs i → set_on p.width (read (take (4 * length l) xs)) t ≡ set_words (page_of p) t
 unfolding page_of set_words
-set_page p xs n t l e h = ap (λ m. set_on p.width (read m) t) h.front ∙ set_laid p.width (take n p.bands) t ∙ ap (λ m. set_on p.width m t) (live (dec_le p.count 96))
-  where
-    live : Dec (p.count ≤ 96) → take n p.bands ≡ take p.count p.bands
-    live (yes h) = let k : n ≡ p.count = omega (arith, e, h) in ap (λ m. take m p.bands) k
-    live (no h) = take_all n p.bands (omega (arith, e, h, l)) ∙ sym (take_all p.count p.bands (omega (arith, h, l)))
+set_page p l xs i t e h k lays =
+    let m : take (4 * length l) xs ≡ laid l = ap (λ j. take (4 * j) xs) (omega (arith, h, k)) ∙ lays.front ∙ ap laid (take_all i l h) in
+    ap (λ l. set_on p.width (read l) t) m ∙ set_laid p.width l t ∙ ap (λ l. set_on p.width l t) e

@@ -1,3 +1,4 @@
+use Rattle.std.specs.Prelude.{Result, Ok, Err, ⊤}
 -- A text is refused with the first row of the table that applies, and with no other: the check gives the rows before the last, and the lines give that one.
 use mathlib.Core.Path.{◌≡◌, refl, sym, ap, subst, ◌∙◌}
 use mathlib.Core.Logic.{◌⊎◌, inl, inr, ◌↔◌, ◌≢◌}
@@ -16,7 +17,6 @@ use Rattle.float.specs.Page.{Page}
 use Rattle.demands.specs.Runs.{Each}
 use Rattle.words.specs.declared.Line.{Line}
 use Rattle.words.specs.declared.TextRefusal.{TextRefusal}
-use Rattle.words.specs.declared.check.TextCheck.{TextCheck}
 use Rattle.words.specs.Text.{Text, cleaned, numbers, check_of, max_words}
 use Rattle.words.specs.Lines.{bottom_at, Turn, too_far, moves, takes, turn_at, Told, lines, refused, before, set_from, set_all, set_words}
 use Rattle.words.specs.Layout.{Tried, begun, lower, after, PassesFar}
@@ -61,9 +61,9 @@ module _ (A : TextRefusal → Type 0) where
   first_last n h (inr (_, inr (_, inr (_, inr (_, inr p))))) = absurd p.1
 
 -- ---- the check
-abbrev Judged : (TextRefusal → Type 0) → TextCheck → Type 0
-Judged A TextCheck.Passed = None A checks
-Judged A (TextCheck.Refused n) = First A order n
+abbrev Judged : (TextRefusal → Type 0) → Result ⊤ TextRefusal → Type 0
+Judged A (Ok _) = None A checks
+Judged A (Err n) = First A order n
 
 module _ (w : Float) (l : List Segment) (t : Text) where
   abbrev A : TextRefusal → Type 0
@@ -150,7 +150,7 @@ module _ (p : Page) (t : Text) where
   outcome : Outcome Row (set_words p t)
   outcome = told p t (Outcome Row) by_check (λ e. by_lines (subst (Judged Row) e (judged p.width p.bands t)) (set_all p.width p.bands (cleaned t)) refl)
     where
-      by_check : (n : TextRefusal) → check_of (cleaned t) ≡ TextCheck.Refused n → Outcome Row (refused n)
+      by_check : (n : TextRefusal) → check_of (cleaned t) ≡ Err n → Outcome Row (refused n)
       by_check n e = inl (never_far (cleaned t) n e, subst (Judged Row) e (judged p.width p.bands t))
 
       by_lines : None Row checks → (r : Told) → set_all p.width p.bands (cleaned t) ≡ r → Outcome Row r

@@ -1,6 +1,6 @@
 -- Bands as numbers, four for each: start, end, left and right inset; and words that were judged. Definitions only.
-use Rattle.std.specs.Prelude.{ℕ, suc, ◌≡◌, Bool, cond, List, [], ◌∷◌, map, T, Float, length}
-use Rattle.std.specs.Float.{binary32}
+use Rattle.std.specs.Prelude.{ℕ, suc, ◌≡◌, Bool, cond, List, [], ◌∷◌, map, T, Float, length, slice_index_or}
+use Rattle.std.specs.Float.{binary32, nan}
 use Rattle.std.specs.Float.Ieee.{le}
 use Rattle.f32_laws.specs.Key.{Num}
 use Rattle.float.specs.declared.Segment.{Segment}
@@ -27,6 +27,13 @@ read (a ∷ []) = []
 read (a ∷ b ∷ []) = []
 read (a ∷ b ∷ c ∷ []) = []
 read (a ∷ b ∷ c ∷ d ∷ xs) = bare a b c d ∷ read xs
+
+-- and of each four their band
+abbrev pub band_of : List Float → Segment
+band_of c = bare (slice_index_or c 0 nan) (slice_index_or c 1 nan) (slice_index_or c 2 nan) (slice_index_or c 3 nan)
+
+abbrev pub bands_of : List (List Float) → List Segment
+bands_of cs = map band_of cs
 
 -- from x on no start is less than the one before it, none is greater than its own end, and both are numbers
 pub record Fine (s : Segment) : Type 0 where

@@ -1,5 +1,5 @@
 -- Lines of words beside the bands of a page (4/14). Definitions only.
-use Rattle.std.specs.Prelude.{ℕ, zero, suc, ◌+◌, Bool, true, false, not, ◌&&◌, ◌||◌, cond, List, [], ◌∷◌, Float, length, take, drop, replicate}
+use Rattle.std.specs.Prelude.{ℕ, zero, suc, ◌+◌, Bool, true, false, not, ◌&&◌, ◌||◌, cond, List, [], ◌∷◌, Float, length, take, drop, replicate, Result, Ok, Err, ⊤}
 use Rattle.std.specs.Float.{binary32}
 use Rattle.std.specs.Float.Ieee.{add, sub, lt, le}
 use Rattle.f32_laws.specs.Numbers.{larger, zero+}
@@ -10,10 +10,8 @@ use Rattle.float.specs.Numbers.{in_reach}
 use Rattle.float.specs.Page.{Page, front}
 use Rattle.words.specs.declared.Line.{Line}
 use Rattle.words.specs.declared.Lines.{Lines}
-use Rattle.words.specs.declared.SetAnswer.{SetAnswer}
 use Rattle.words.specs.declared.TextRefusal.{TextRefusal}
 use Rattle.words.specs.declared.beside.Span.{Span}
-use Rattle.words.specs.declared.check.TextCheck.{TextCheck}
 use Rattle.words.specs.Text.{Text, cleaned, check_of, max_words, number_of}
 
 -- ---- one line
@@ -105,7 +103,7 @@ abbrev pub set_all : Float → List Segment → Text → Told
 set_all w l t = set_from (length l + length t.widths) w l t 0 t.min_y t.widths
 
 unfoldable pub set_on : Float → List Segment → Text → Told
-set_on w l t = elim (check_of (cleaned t)) [ TextCheck.Passed ↦ set_all w l (cleaned t) | TextCheck.Refused n ↦ refused n ]
+set_on w l t = elim (check_of (cleaned t)) [ Ok _ ↦ set_all w l (cleaned t) | Err n ↦ refused n ]
 
 -- `set_words`
 unfoldable pub set_words : Page → Text → Told
@@ -117,19 +115,25 @@ set_words p t = set_on p.width p.bands t
 abbrev pub no_line : Line
 no_line = record { x = zero+; y = zero+; first = 0; count = 0 }
 
--- the lines at the front of the array; with a refusal none
-unfoldable pub answered : Told → Lines
-answered (lines xs) = record { answer = SetAnswer.Set; lines = front xs (replicate max_words no_line); count = length xs }
-answered (refused n) = record { answer = SetAnswer.Refused n; lines = replicate max_words no_line; count = 0 }
+-- the lines at the front of the array; or the refusal alone
+unfoldable pub answered : Told → Result Lines TextRefusal
+answered (lines xs) = Ok (record { lines = front xs (replicate max_words no_line); count = length xs })
+answered (refused n) = Err n
+
+-- a place for lines, with none yet
+abbrev pub no_lines : Lines
+no_lines = record { lines = replicate max_words no_line; count = 0 }
+
+-- or set in a lent place: of what that answers, and of what the place then holds, the same
+unfoldable pub handed : Result ⊤ TextRefusal → Lines → Result Lines TextRefusal
+handed (Ok _) s = Ok s
+handed (Err n) s = Err n
 
 -- by the paper's numbers: of each line x, y, its first word and its count; or the number of the refusal
 unfoldable pub line_values : List Line → List Value
 line_values [] = []
 line_values (x ∷ xs) = float x.x ∷ float x.y ∷ count x.first ∷ count x.count ∷ line_values xs
 
-abbrev pub said_by : SetAnswer → List Line → Said
-said_by SetAnswer.Set xs = values (line_values xs)
-said_by (SetAnswer.Refused n) xs = refused_by (number_of n)
-
-abbrev pub said_lines : Lines → Said
-said_lines r = said_by r.answer (take r.count r.lines)
+abbrev pub said_lines : Result Lines TextRefusal → Said
+said_lines (Ok r) = values (line_values (take r.count r.lines))
+said_lines (Err n) = refused_by (number_of n)

@@ -4,7 +4,7 @@ use Rattle.std.specs.Float.Ieee.{eq}
 use Rattle.f32_laws.specs.Numbers.{zero+}
 use Rattle.float.specs.declared.Segment.{Segment}
 use Rattle.float.specs.Numbers.{value}
-use Rattle.demands.specs.Runs.{Each, Some}
+use Rattle.demands.specs.Runs.{Each, Any}
 use Rattle.demands.specs.Rows.{NotFinite, Outside}
 use Rattle.words.specs.declared.TextRefusal.{TextRefusal}
 use Rattle.words.specs.Text.{Text, cleaned, numbers}
@@ -17,8 +17,8 @@ Figures P t = Each (λ g. P (value g)) (numbers t)
 
 -- the table: what a text is refused for on a page of the width w with the bands l
 abbrev pub AppliesTo : Float → List Segment → Text → TextRefusal → Type 0
-AppliesTo w l t TextRefusal.NotFinite = Some NotFinite (numbers t)
-AppliesTo w l t TextRefusal.OutOfLimits = Some Outside (numbers t)
+AppliesTo w l t TextRefusal.NotFinite = Any NotFinite (numbers t)
+AppliesTo w l t TextRefusal.OutOfLimits = Any Outside (numbers t)
 AppliesTo w l t TextRefusal.TooManyWords = 512 < length t.widths
 AppliesTo w l t TextRefusal.NoLineHeight = T (eq t.height zero+)
 AppliesTo w l t TextRefusal.TooFar = PassesFar w l (cleaned t)

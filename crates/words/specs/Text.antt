@@ -1,10 +1,9 @@
 -- What is handed in to be set in lines, and the refusals that are given before any line. Definitions only.
-use Rattle.std.specs.Prelude.{ℕ, cond, List, [], ◌∷◌, ◌++◌, map, leb, Float, length}
+use Rattle.std.specs.Prelude.{ℕ, cond, List, [], ◌∷◌, ◌++◌, map, leb, Float, length, Result, Ok, Err, ⊤}
 use Rattle.std.specs.Float.Ieee.{eq}
 use Rattle.f32_laws.specs.Numbers.{zero+}
 use Rattle.float.specs.Numbers.{Given, size, offset, plus_zero, all_finite, all_allowed}
 use Rattle.words.specs.declared.TextRefusal.{TextRefusal}
-use Rattle.words.specs.declared.check.TextCheck.{TextCheck}
 
 -- a text: the widths of its words, the gap between two words, the height of a line, min_y, and the insets of the container
 pub record Text : Type 0 where
@@ -36,12 +35,12 @@ number_of TextRefusal.TooManyWords = 9
 number_of TextRefusal.NoLineHeight = 10
 
 -- of several the first in this order: 2 over all numbers, 3 over all, 9, 10
-unfoldable pub check_of : Text → TextCheck
+unfoldable pub check_of : Text → Result ⊤ TextRefusal
 check_of t =
     cond (all_finite (numbers t))
     (cond (all_allowed (numbers t))
     (cond (leb (length t.widths) max_words)
-    (cond (eq t.height zero+) (TextCheck.Refused TextRefusal.NoLineHeight) TextCheck.Passed)
-    (TextCheck.Refused TextRefusal.TooManyWords))
-    (TextCheck.Refused TextRefusal.OutOfLimits))
-    (TextCheck.Refused TextRefusal.NotFinite)
+    (cond (eq t.height zero+) (Err TextRefusal.NoLineHeight) (Ok tt))
+    (Err TextRefusal.TooManyWords))
+    (Err TextRefusal.OutOfLimits))
+    (Err TextRefusal.NotFinite)

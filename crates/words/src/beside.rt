@@ -1,12 +1,12 @@
 // What stands beside a line. The bands are lent as numbers, four for each: start, end, left and right inset.
-ghost use Rattle.std.specs.Prelude.{◌≡◌, true, false, ◌&&◌, cond, ◌++◌, [], ◌∷◌, ◌+◌, ◌*◌, ◌≤◌, ◌<◌, min, suc, length, take};
+ghost use Rattle.std.specs.Prelude.{◌≡◌, true, false, ◌&&◌, cond, ◌++◌, [], ◌∷◌, ◌+◌, ◌*◌, ◌≤◌, ◌<◌, suc, length, take, T};
 ghost use Rattle.std.specs.Float.{inf};
-ghost use Rattle.std.specs.Float.Ieee.{lt};
+ghost use Rattle.std.specs.Float.Ieee.{le, lt};
 ghost use Rattle.float.specs.declared.Segment.{Segment as SegmentOf};
 ghost use Rattle.float.specs.Bands.{last_end};
 ghost use Rattle.float.specs.Numbers.{in_reach};
 ghost use Rattle.words.specs.Lines.{joined as joined_with, span_over, next_start};
-ghost use Rattle.words.specs.Laid.{read, Rising, passed_by};
+ghost use Rattle.words.specs.Laid.{bands_of, Fine, Rising, passed_by};
 
 use float::Segment;
 use float::number::larger;
@@ -19,13 +19,16 @@ pub struct Span {
     pub beside: bool,
 }
 
-// How many places of a page's array hold bands.
-pub(crate) fn live(count: usize) -> usize
-    ensures { result ≡ min count 96 }
+// The live bands of a page's array.
+// Kept: float's method of this name is its own; made public it would be one promise more.
+pub(crate) fn live(bands: &[Segment; 96], count: usize) -> &[Segment]
+    ensures is { result.now ≡ take count bands.now }
+    ensures few { length result.now ≤ 96 }
 {
-    if count < 96 { count } else { 96 }
+    &bands[..count.min(96)]
 }
 
+// Kept: bands as numbers in one slice, as `lay` and `set_beside` promise them to a holder; inside they are arrays of four.
 // The numbers of the band i in their places, where there is room.
 pub fn lay(bands: &mut [f32], i: usize, b: Segment)
     ensures { (length bands.new ≡ length bands.old) × (4 * suc i ≤ length bands.old → take (4 * suc i) bands.new ≡ take (4 * i) bands.old ++ b.start ∷ b.end ∷ b.left ∷ b.right ∷ []) }
@@ -40,41 +43,42 @@ pub fn lay(bands: &mut [f32], i: usize, b: Segment)
     bands[at + 3] = b.right;
 }
 
-// Whether no start is less than the one above it, and none greater than its own end. So it is on every page that calls reach.
-pub(crate) fn rising(bands: &[f32]) -> bool
-    ensures { result ≡ true → Rising (inf true) (read bands.now) }
+// Whether a band starts no higher than the one above it, and does not end above its own start.
+fn follows(above: f32, start: f32, end: f32) -> bool
+    ensures { result ≡ true → (s : SegmentOf) → s.start ≡ start → s.end ≡ end → Fine s × T (le above s.start) }
 {
-    let mut above = -f32::from_bits(0x7F80_0000);
-    let n = bands.len() / 4;
-    let mut i = 0;
-    while i < n {
-        let start = bands[4 * i];
-        let end = bands[4 * i + 1];
-        if !((above <= start) & (start <= end)) {
+    (above <= start) & (start <= end)
+}
+
+// Whether each band follows the one above it. So it is on every page that calls reach.
+pub(crate) fn rising(bands: &[[f32; 4]]) -> bool
+    ensures { result ≡ true → Rising (inf true) (bands_of bands.now) }
+{
+    let mut above = f32::NEG_INFINITY;
+    for [start, end, ..] in bands {
+        if !follows(above, *start, *end) {
             return false;
         }
-        above = start;
-        i += 1;
+        above = *start;
     }
     true
 }
 
+// Kept: whether the bands rise is found once for all lines, and handed on with them.
 // How many of the first bands end at or above y. Where the bands rise, no line further down needs to look at these.
-pub(crate) fn passed(bands: &[f32], sorted: bool, y: f32) -> usize
-    ensures { result ≡ passed_by sorted (read bands.now) y }
+pub(crate) fn passed(bands: &[[f32; 4]], sorted: bool, y: f32) -> usize
+    ensures count { result ≡ passed_by sorted (bands_of bands.now) y }
+    ensures few { result ≤ length bands.now }
 {
     if !sorted {
         return 0;
     }
-    let n = bands.len() / 4;
-    let mut i = 0;
-    while i < n {
-        if y < bands[4 * i + 1] {
+    for (i, [_, end, ..]) in bands.iter().enumerate() {
+        if y < *end {
             return i;
         }
-        i += 1;
     }
-    i
+    bands.len()
 }
 
 fn joined(e: Span, touches: bool, left: f32, right: f32) -> Span
@@ -92,59 +96,50 @@ fn joined(e: Span, touches: bool, left: f32, right: f32) -> Span
 
 // A line from y to bottom between these insets. Where the bands rise, none is touched after the first that starts at or below the bottom.
 pub(crate) fn span_of(
-    bands: &[f32],
+    bands: &[[f32; 4]],
     sorted: bool,
     y: f32,
     bottom: f32,
     left: f32,
     right: f32,
 ) -> Span
-    requires { (in_reach bottom ≡ true) × (sorted ≡ true → Rising (inf true) (read bands.now)) }
-    ensures { result ≡ span_over y bottom (record { left = left; right = right; beside = false }) (read bands.now) }
+    requires { (in_reach bottom ≡ true) × (sorted ≡ true → Rising (inf true) (bands_of bands.now)) }
+    ensures { result ≡ span_over y bottom (record { left = left; right = right; beside = false }) (bands_of bands.now) }
 {
     let mut e = Span {
-        left: left,
-        right: right,
+        left,
+        right,
         beside: false,
     };
-    let n = bands.len() / 4;
-    let mut i = 0;
-    while i < n {
-        let at = 4 * i;
-        let starts = bands[at] < bottom;
+    for [start, end, left, right] in bands {
+        let starts = *start < bottom;
         if sorted & !starts {
             return e;
         }
-        let touches = (y < bands[at + 1]) & starts;
-        e = joined(e, touches, bands[at + 2], bands[at + 3]);
-        i += 1;
+        let touches = (y < *end) & starts;
+        e = joined(e, touches, *left, *right);
     }
     e
 }
 
 // The next band start greater than y, z where there is none.
-pub(crate) fn next_start(bands: &[f32], y: f32, z: f32) -> f32
-    ensures { result ≡ next_start y z (read bands.now) }
+pub(crate) fn next_start(bands: &[[f32; 4]], y: f32, z: f32) -> f32
+    ensures { result ≡ next_start y z (bands_of bands.now) }
 {
-    let n = bands.len() / 4;
-    let mut i = 0;
-    while i < n {
-        let start = bands[4 * i];
-        if y < start {
-            return start;
+    for [start, ..] in bands {
+        if y < *start {
+            return *start;
         }
-        i += 1;
     }
     z
 }
 
 // The last band's end, y where there is no band.
-pub(crate) fn last_end(bands: &[f32], y: f32) -> f32
-    ensures { result ≡ last_end y (read bands.now) }
+pub(crate) fn last_end(bands: &[[f32; 4]], y: f32) -> f32
+    ensures { result ≡ last_end y (bands_of bands.now) }
 {
-    let n = bands.len() / 4;
-    if n == 0 {
-        return y;
+    match bands {
+        [.., [_, end, ..]] => *end,
+        [] => y,
     }
-    bands[4 * n - 3]
 }

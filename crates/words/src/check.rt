@@ -7,13 +7,6 @@ ghost use Rattle.words.specs.Laid.{Judges};
 use crate::TextRefusal;
 use float::number::{finite, offset_allowed, plus_zero, size_allowed};
 
-// What is said of a text before any line is set.
-#[derive(Clone, Copy)]
-pub enum TextCheck {
-    Passed,
-    Refused(TextRefusal),
-}
-
 // Whether all of some numbers are finite, and all inside their limits.
 #[derive(Clone, Copy)]
 pub struct Judged {
@@ -21,42 +14,41 @@ pub struct Judged {
     pub allowed: bool,
 }
 
+// Kept: `tape` judges the widths of a text too long to be set from its bytes (`judge_text`), for which there is no room as numbers.
 // Of word widths, as many as there are.
 pub(crate) fn judge_widths(words: &[f32]) -> Judged
     ensures { Judges (map plus_zero words.now) (length words.now) result }
 {
-    let mut all_finite = true;
-    let mut all_allowed = true;
-    let mut i = 0;
-    while i < words.len() {
-        let w = plus_zero(words[i]);
-        all_finite = all_finite & finite(w);
-        all_allowed = all_allowed & size_allowed(w);
-        i += 1;
+    let mut judged = Judged {
+        finite: true,
+        allowed: true,
+    };
+    for word in words {
+        let w = plus_zero(*word);
+        judged.finite &= finite(w);
+        judged.allowed &= size_allowed(w);
     }
-    Judged {
-        finite: all_finite,
-        allowed: all_allowed,
-    }
+    judged
 }
 
 // Of several the first in this order.
-fn verdict(finite: bool, allowed: bool, few: bool, no_height: bool) -> TextCheck
-    ensures { result ≡ cond finite (cond allowed (cond few (cond no_height (TextCheck.Refused TextRefusal.NoLineHeight) TextCheck.Passed) (TextCheck.Refused TextRefusal.TooManyWords)) (TextCheck.Refused TextRefusal.OutOfLimits)) (TextCheck.Refused TextRefusal.NotFinite) }
+// Kept: beside float's, since a text has an enum of its own and two refusals more.
+fn verdict(finite: bool, allowed: bool, few: bool, no_height: bool) -> Result<(), TextRefusal>
+    ensures { result ≡ cond finite (cond allowed (cond few (cond no_height (Err TextRefusal.NoLineHeight) (Ok tt)) (Err TextRefusal.TooManyWords)) (Err TextRefusal.OutOfLimits)) (Err TextRefusal.NotFinite) }
 {
     if !finite {
-        return TextCheck::Refused(TextRefusal::NotFinite);
+        return Err(TextRefusal::NotFinite);
     }
     if !allowed {
-        return TextCheck::Refused(TextRefusal::OutOfLimits);
+        return Err(TextRefusal::OutOfLimits);
     }
     if !few {
-        return TextCheck::Refused(TextRefusal::TooManyWords);
+        return Err(TextRefusal::TooManyWords);
     }
     if no_height {
-        return TextCheck::Refused(TextRefusal::NoLineHeight);
+        return Err(TextRefusal::NoLineHeight);
     }
-    TextCheck::Passed
+    Ok(())
 }
 
 // Of a text whose widths are judged: the other numbers have plus zero for minus zero.
@@ -68,7 +60,7 @@ pub fn check_text(
     min_y: f32,
     left: f32,
     right: f32,
-) -> TextCheck
+) -> Result<(), TextRefusal>
     ensures { (ws : List Float) → Judges ws count widths → result ≡ check_of (record { widths = ws; gap = gap; height = height; min_y = min_y; left = left; right = right }) }
 {
     verdict(

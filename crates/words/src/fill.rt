@@ -1,5 +1,5 @@
 // How many words a line takes.
-ghost use Rattle.std.specs.Prelude.{◌≡◌, map};
+ghost use Rattle.std.specs.Prelude.{◌≡◌, ◌≤◌, map, length};
 ghost use Rattle.float.specs.Numbers.{plus_zero};
 ghost use Rattle.words.specs.Lines.{first_fits};
 ghost use Rattle.words.specs.Laid.{taken};
@@ -16,23 +16,22 @@ fn first_fits(e: Span, room: f32, word: f32) -> bool
 
 // Of the words that are left, the first ones that the line takes: none where not even the first fits.
 pub(crate) fn take_words(rest: &[f32], e: Span, room: f32, gap: f32) -> usize
-    ensures { result ≡ taken e room gap (map plus_zero rest.now) }
+    ensures count { result ≡ taken e room gap (map plus_zero rest.now) }
+    ensures few { result ≤ length rest.now }
 {
-    if rest.len() == 0 {
+    let [first, others @ ..] = rest else {
         return 0;
-    }
-    let mut sum = plus_zero(rest[0]);
+    };
+    let mut sum = plus_zero(*first);
     if !first_fits(e, room, sum) {
         return 0;
     }
-    let mut n = 1;
-    while n < rest.len() {
-        let wider = sum + gap + plus_zero(rest[n]);
+    for (i, word) in others.iter().enumerate() {
+        let wider = sum + gap + plus_zero(*word);
         if !(wider <= room) {
-            return n;
+            return i + 1;
         }
         sum = wider;
-        n += 1;
     }
-    n
+    rest.len()
 }

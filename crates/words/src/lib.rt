@@ -13,20 +13,21 @@ ghost use Rattle.words.specs.Lines.{set_words, answered};
 pub use crate::beside::lay;
 use crate::beside::live;
 pub use crate::set::set_beside;
+use crate::set::{no_lines, set_in};
 use float::FloatContext;
 
-// The reasons for which a text is refused. The paper's number of each is `number_of` in specs/Text.antt.
-#[derive(Clone, Copy)]
+// The reasons for which a text is refused, each with the paper's number.
+#[derive(Clone, Copy, PartialEq, Eq, Debug)]
 pub enum TextRefusal {
-    NotFinite,
-    OutOfLimits,
-    TooFar,
-    TooManyWords,
-    NoLineHeight,
+    NotFinite = 2,
+    OutOfLimits = 3,
+    TooFar = 6,
+    TooManyWords = 9,
+    NoLineHeight = 10,
 }
 
 // A line: its left edge, its top, the number of its first word counted from 0, and how many it has.
-#[derive(Clone, Copy)]
+#[derive(Clone, Copy, Default)]
 pub struct Line {
     pub x: f32,
     pub y: f32,
@@ -34,48 +35,42 @@ pub struct Line {
     pub count: u16,
 }
 
-#[derive(Clone, Copy)]
-pub enum SetAnswer {
-    Set,
-    Refused(TextRefusal),
-}
-
-// The lines of a text from the top down, at the front of the array; none where it is refused.
+// Kept: an array with a count, since there is no heap.
+// The lines of a text from the top down, at the front of the array.
 #[derive(Clone, Copy)]
 pub struct Lines {
-    pub answer: SetAnswer,
     pub lines: [Line; 512],
     pub count: usize,
 }
 
 // Sets words of these widths in lines, the first no higher than min_y.
 pub fn set_words(
-    page: FloatContext,
+    page: &FloatContext,
     words: &[f32],
     gap: f32,
     line_height: f32,
     min_y: f32,
     left: f32,
     right: f32,
-) -> Lines
-    ensures { result ≡ answered (set_words (page_of page) (record { widths = words.now; gap = gap; height = line_height; min_y = min_y; left = left; right = right })) }
+) -> Result<Lines, TextRefusal>
+    ensures { result ≡ answered (set_words (page_of page.now) (record { widths = words.now; gap = gap; height = line_height; min_y = min_y; left = left; right = right })) }
 {
-    let n = live(page.count);
+    let live = live(&page.bands, page.count);
     let mut bands = [0.0; 384];
-    let mut i = 0;
-    while i < n {
-        let b = page.bands[i];
-        lay(&mut bands, i, b);
-        i += 1;
+    for (i, b) in live.iter().enumerate() {
+        lay(&mut bands, i, *b);
     }
-    set_beside(
+    let mut set = no_lines();
+    set_in(
+        &mut set,
         page.width,
-        &bands[..4 * n],
+        &bands[..4 * live.len()],
         words,
         gap,
         line_height,
         min_y,
         left,
         right,
-    )
+    )?;
+    Ok(set)
 }

@@ -1,21 +1,23 @@
 -- `words::set_words` meets its contract: the bands are laid as numbers, one after the other, and the lines set beside them.
-use Rattle.std.proofs.Common.{refl, ap, subst, ◌∙◌, arith}
-use Rattle.words.specs.Lines.{answered}
-use Rattle.words.proofs.Laid.{Lays, lays_none, lays_one, bands_96, set_page}
+use Rattle.std.proofs.Common.{Err, refl, ap, ◌∙◌, arith}
+use Rattle.std.proofs.lemmas.Result.{err_from_is_err_and}
+use Rattle.words.specs.Lines.{answered, handed}
+use Rattle.words.proofs.Laid.{lays_none, lays_one, set_page}
 use Rattle.words.proofs.set_words.Goals as goal
 
 pub loop-i-init : goal.loop-i-init
-loop-i-init c = (omega arith, refl, lays_none _ _)
+loop-i-init c = lays_none _ _
 
 pub loop-i-preserved : goal.loop-i-preserved
-loop-i-preserved c =
-    let f = bands_96 c.args.page _ c.well_formed.0 in
-    let p = c.lay.ensures in
-    let v = c.loop-i.invariant in
-    (omega (arith, c.loop-i-test.true), p.0 ∙ v.1, lays_one v.2 (omega (arith, f, c.loop-i-test.true, c.live-n.ensures)) _ _ refl (p.1 (omega (arith, c.loop-i-test.true, c.live-n.ensures, v.1))))
+loop-i-preserved c = lays_one c.loop-i.invariant c.loop-i-test.true _ _ refl (c.lay.ensures.1 (omega (arith, c.loop-i-test.true, c.loop-i-test.array_long, c.live-live.ensures.few)))
 
 -- the loop ends where all are laid
+pub returns-in_err-set_in : goal.returns-in_err-set_in
+unfolding handed
+returns-in_err-set_in c =
+    let p = err_from_is_err_and c.from_residual.result c.from_residual.ensures.1 in
+    p.1 ∙ ap Err p.2 ∙ c.in_err-set_in.ensures ∙ ap answered (set_page c.args.page.now _ c.loop-i.bands c.loop-i.i _ c.live-live.ensures.is c.loop-i-test.false c.loop-i.auto.i-end c.loop-i.invariant)
+
 pub returns : goal.returns
-returns c =
-    c.set_beside.ensures
-    ∙ ap answered (set_page c.args.page c.loop-i.bands c.live-n.result _ (bands_96 c.args.page _ c.well_formed.0) c.live-n.ensures (subst (Lays _ _) (omega (arith, c.loop-i.invariant.0, c.loop-i-test.false)) c.loop-i.invariant.2))
+unfolding handed
+returns c = c.in_ok-set_in.ensures ∙ ap answered (set_page c.args.page.now _ c.loop-i.bands c.loop-i.i _ c.live-live.ensures.is c.loop-i-test.false c.loop-i.auto.i-end c.loop-i.invariant)

@@ -1,12 +1,15 @@
 -- `float::FloatContext::cleared_threshold` meets its contract: the check decides.
 use Rattle.std.proofs.Common.{refl}
+use Rattle.float.specs.Clear.{cleared}
 use Rattle.float.specs.Page.{page_of}
-use Rattle.float.proofs.Answers.{threshold_passed, threshold_refused}
+use Rattle.float.specs.Slot.{cleared_threshold}
+use Rattle.float.proofs.Judged.{read, coded, no_code}
 use Rattle.float.proofs.FloatContext.cleared_threshold.Goals as goal
 
-pub returns-in-Passed : goal.returns-in-Passed
-unfolding page_of
-returns-in-Passed c = threshold_passed _ _ c.check_clear-check.ensures c.in-Passed.is c.clear_of.ensures (c.cleared.ensures (page_of c.args.self) refl refl)
+pub returns-in_err-clear : goal.returns-in_err-clear
+unfolding cleared_threshold
+returns-in_err-clear c = no_code _ _ _ _ c.try_from.ensures c.in_err-clear.was _ c.from_residual.ensures.1
 
-pub returns-in-Refused : goal.returns-in-Refused
-returns-in-Refused c = threshold_refused _ _ c.check_clear-check.ensures c.in-Refused.is
+pub returns : goal.returns
+unfolding page_of cleared_threshold
+returns c = coded (read _ c.try_from.ensures c.in_ok-clear.was) (cleared (page_of c.args.self.now)) (c.cleared.ensures (page_of c.args.self.now) refl refl)

@@ -4,7 +4,6 @@ use Rattle.f32_laws.proofs.Tests.{ltb_same}
 use Rattle.float.specs.declared.FloatContext.{FloatContext}
 use Rattle.float.specs.Page.{page_of}
 use Rattle.float.specs.Slot.{has_floats}
-use Rattle.float.proofs.Front.{boxes_64}
 use Rattle.float.proofs.FloatContext.has_floats.Goals as goal
 
 some : (p : FloatContext) → length p.boxes ≡ 64 → ltb 0 p.box_count ≡ has_floats (page_of p)
@@ -14,4 +13,4 @@ some p h =
     ltb_same 0 p.box_count 0 (length (take p.box_count p.boxes)) (λ a. omega arith) (λ a. omega arith)
 
 pub returns : goal.returns
-returns c = some c.args.self (boxes_64 c.args.self _ c.well_formed.0)
+returns c = some c.args.self.now (omega arith)

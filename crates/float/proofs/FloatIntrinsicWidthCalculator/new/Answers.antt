@@ -1,19 +1,12 @@
 -- `float::FloatIntrinsicWidthCalculator::new` meets its contract: what is available decides, then the check of its number.
-use Rattle.std.proofs.Common.{◌∙◌}
-use Rattle.float.specs.Calculator.{calculator_of}
-use Rattle.float.proofs.Totals.{new_passed, new_refused}
+use Rattle.float.proofs.Totals.{new_without, new_passed, new_refused}
 use Rattle.float.proofs.FloatIntrinsicWidthCalculator.new.Goals as goal
 
-pub returns-in-MinContent : goal.returns-in-MinContent
-unfolding calculator_of
-returns-in-MinContent c = simp (c.in-MinContent.is, c.started.ensures)
+pub returns-in_default : goal.returns-in_default
+returns-in_default c = rw c.started.ensures (new_without _ c.in_default.not-Definite)
 
-pub returns-in-MaxContent : goal.returns-in-MaxContent
-unfolding calculator_of
-returns-in-MaxContent c = simp (c.in-MaxContent.is, c.started-in-MaxContent.ensures)
+pub returns-in_err-check_size : goal.returns-in_err-check_size
+returns-in_err-check_size c = new_refused c.in-Definite.is c.plus_zero-width.ensures c.check_size.ensures c.in_err-check_size.was _ c.from_residual.ensures.1
 
-pub returns-in-Passed : goal.returns-in-Passed
-returns-in-Passed c = c.started-in-Passed.ensures ∙ new_passed c.in-Definite.is c.plus_zero-width.ensures c.check_size-check.ensures c.in-Passed.is
-
-pub returns-in-Refused : goal.returns-in-Refused
-returns-in-Refused c = new_refused c.in-Definite.is c.plus_zero-width.ensures c.check_size-check.ensures c.in-Refused.is
+pub returns : goal.returns
+returns c = rw c.started-2.ensures (new_passed c.in-Definite.is c.plus_zero-width.ensures c.check_size.ensures c.in_ok-check_size.was)

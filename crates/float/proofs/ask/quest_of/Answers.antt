@@ -7,4 +7,4 @@ use Rattle.float.proofs.ask.quest_of.Goals as goal
 pub returns : goal.returns
 unfolding page_of
 returns c = let a = c.args in
-    quest_made a.head a.check a.clear a.after a.y c.smaller_n-n.ensures c.first_allowed.ensures c.smaller_n-from.ensures (c.cleared.ensures (page_in a.head [] []) refl refl) c.raise_to-above.ensures
+    quest_made a.head a.clear a.after a.y c.min-n.ensures c.first_allowed.ensures c.min.ensures (c.cleared-cleared.ensures (page_in a.head [] []) refl refl) c.raise_to.ensures

@@ -3,14 +3,14 @@ use lib.Ieee.{of_bits}
 use Rattle.f32_laws.specs.Numbers.{zero+}
 use Rattle.float.proofs.calculator.zeroed.Goals as goal
 
-pub returns-in-Left-side : goal.returns-in-Left-side
+pub returns-in-Left-Left : goal.returns-in-Left-Left
 unfolding zero+ of_bits
-returns-in-Left-side c = simp (c.in-Left.is, c.in-Left-side.is)
+returns-in-Left-Left c = simp (c.in-Left-Left.is-0, c.in-Left-Left.is-1)
 
-pub returns-in-Right-side-2 : goal.returns-in-Right-side-2
+pub returns-in-Right-Right : goal.returns-in-Right-Right
 unfolding zero+ of_bits
-returns-in-Right-side-2 c = simp (c.in-Right.is, c.in-Right-side-2.is)
+returns-in-Right-Right c = simp (c.in-Right-Right.is-0, c.in-Right-Right.is-1)
 
-pub returns-in-Both : goal.returns-in-Both
+pub returns-in-Both-default : goal.returns-in-Both-default
 unfolding zero+ of_bits
-returns-in-Both c = simp c.in-Both.is
+returns-in-Both-default c = simp c.in-Both-default.is-0

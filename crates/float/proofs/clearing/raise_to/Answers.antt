@@ -7,6 +7,6 @@ pub returns-in-None : goal.returns-in-None
 unfolding raise_to
 returns-in-None c = search rules
 
-pub returns-in-At : goal.returns-in-At
+pub returns-in-Some : goal.returns-in-Some
 unfolding raise_to
-returns-in-At c = simp (c.in-At.is, c.larger.ensures)
+returns-in-Some c = simp (c.in-Some.is, c.larger.ensures)

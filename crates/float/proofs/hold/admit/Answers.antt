@@ -1,6 +1,30 @@
 -- `float::hold::admit` meets its contract: the refusals in their order, then rules 1 and 2.
-use Rattle.float.proofs.Admitted.{admits}
+use Rattle.std.proofs.Common.{sym, subst}
+use Rattle.float.specs.Hold.{Admits}
+use Rattle.float.specs.Place.{Call}
+use Rattle.float.proofs.Admitted.{refused_input, refused_room, admits}
+use Rattle.float.proofs.Judged.{handed}
 use Rattle.float.proofs.hold.admit.Goals as goal
+
+pub returns-in_err-side : goal.returns-in_err-side
+returns-in_err-side c =
+    let s = c.args in
+    let d : Call = record { side = s.side; clear = s.clear; width = s.width; height = s.height; min_y = s.min_y; left = s.left; right = s.right } in
+    subst (Admits s.head d) (sym (handed _ c.from_residual.ensures.1))
+    (refused_input s.head d _ _ _ _ _ c.plus_zero-w.ensures c.plus_zero-h.ensures c.plus_zero-m.ensures c.plus_zero-l.ensures c.plus_zero-r.ensures _ c.check_box.ensures _ c.in_err-side.was)
+
+pub returns-then-head-ge64 : goal.returns-then-head-ge64
+returns-then-head-ge64 c =
+    let s = c.args in
+    refused_room s.head (record { side = s.side; clear = s.clear; width = s.width; height = s.height; min_y = s.min_y; left = s.left; right = s.right }) _ _ _ _ _
+    c.plus_zero-w.ensures
+    c.plus_zero-h.ensures
+    c.plus_zero-m.ensures
+    c.plus_zero-l.ensures
+    c.plus_zero-r.ensures
+    _ c.check_box.ensures
+    _ _ c.in_ok-side.was
+    c.if-head-ge64.true
 
 pub returns : goal.returns
 returns c =
@@ -12,12 +36,11 @@ returns c =
     c.plus_zero-l.ensures
     c.plus_zero-r.ensures
     _ c.check_box.ensures
-    _ c.room_for-check.ensures
-    _ c.smaller_n-n.ensures
-    _ c.side_of.ensures
-    _ c.ask_of-ask.ensures
-    _ c.clear_of-k.ensures
+    _ _ c.in_ok-side.was
+    c.if-head-ge64.false
+    _ c.min.ensures
+    _ c.ask_of.ensures
     _ c.raise_to-top.ensures
-    _ c.cleared.ensures
-    _ c.raise_to-y.ensures
-    _ c.larger_n-first.ensures
+    _ c.cleared-cleared.ensures
+    _ c.raise_to.ensures
+    _ c.max.ensures

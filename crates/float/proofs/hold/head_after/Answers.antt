@@ -6,10 +6,10 @@ pub returns : goal.returns
 returns c =
     let s = c.args in
     head_code s.head s.a s.p
-    c.bottom_after-left.ensures
-    c.bottom_after-right.ensures
-    c.lower-top.ensures
-    c.lower-deep.ensures
-    c.smaller_n.ensures
+    c.bottom_after.ensures
+    c.bottom_after-2.ensures
+    c.lower.ensures
+    c.lower-2.ensures
+    c.min.ensures
     c.number_after.ensures
     c.number_after-2.ensures

@@ -1,17 +1,21 @@
 -- `float::page::of_side` meets its contract. The loop's invariant: of the boxes passed, those of the side stand at the front.
-use Rattle.std.proofs.Common.{◌≡◌, length, arith}
-use Rattle.float.proofs.Sides.{picked_none, took, left}
+use Rattle.std.proofs.Common.{replicate, ap, arith}
+use Rattle.float.proofs.Empty.{empty_box}
+use Rattle.float.proofs.Sides.{picked_none, took, left, picked_all}
 use Rattle.float.proofs.page.of_side.Goals as goal
-use Rattle.float.proofs.page.of_side.Goals.{then-same_side, else-same_side}
+use Rattle.float.proofs.page.of_side.Goals.{then-eq, else-eq}
 
-pub loop-i-init : goal.loop-i-init
-loop-i-init c = (omega arith, omega arith, picked_none _ _ _ (cc c.no_box-b.ensures))
+pub loop-b-init : goal.loop-b-init
+loop-b-init c = (omega arith, picked_none _ _ _ (ap (replicate 64) (empty_box _ c.default-out.ensures)))
 
-pub loop-i-preserved : goal.loop-i-preserved
-loop-i-preserved c =
-    let l = c.loop-i in
-    let z : length c.args.boxes ≡ 64 = omega arith in
-    elim c.if-same_side.branch [
-      | then-same_side w ↦ took c.args.d c.args.boxes c.args.n l.i l.out l.count _ (omega arith) (omega arith) (omega arith) l.invariant.2 _ c.same_side.ensures _ _ w.if-same_side.true w.out-is w.count-is
-      | else-same_side w ↦ left c.args.d c.args.boxes c.args.n l.i l.out l.count _ (omega arith) (omega arith) (omega arith) l.invariant.2 _ c.same_side.ensures _ _ w.if-same_side.false w.out-is w.count-is
+pub loop-b-preserved : goal.loop-b-preserved
+loop-b-preserved c =
+    let l = c.loop-b in
+    let t = c.loop-b-test.true in
+    elim c.if-eq.branch [
+      | then-eq w ↦ took c.args.d c.args.boxes.now l.b-index l.out l.count _ t c.requires l.invariant.1 _ c.eq.ensures _ _ w.if-eq.true w.out-is w.count-is
+      | else-eq w ↦ left c.args.d c.args.boxes.now l.b-index l.out l.count _ t c.requires l.invariant.1 _ c.eq.ensures _ _ w.if-eq.false w.out-is w.count-is
     ]
+
+pub returns : goal.returns
+returns c = picked_all _ _ c.loop-b.b-index _ _ (omega arith) c.loop-b.invariant.1

@@ -3,4 +3,4 @@ use Rattle.float.proofs.Judged.{one, told}
 use Rattle.float.proofs.refuse.check_offset.Goals as goal
 
 pub returns : goal.returns
-returns c = told _ _ c.verdict.ensures (one c.finite.ensures c.offset_allowed.ensures)
+returns c = told _ c.verdict.ensures (one c.finite.ensures c.offset_allowed.ensures)

@@ -2,12 +2,10 @@
 use Rattle.tape.proofs.Reading.{whole, cut, unknown}
 use borrow.Author.Rules.{rules}
 use Rattle.tape.proofs.record.read_record.Goals as goal
+use Rattle.tape.proofs.record.read_record.Goals.{then-kind-ge8-via-then-kind-ge8, then-kind-ge8-via-else-kind-ge8+then-b-body_len}
 
-pub returns-then-body_len-b : goal.returns-then-body_len-b
-returns-then-body_len-b c = whole _ _ (search rules) (search rules) c.read_body.ensures
+pub returns-then-kind-ge8 : goal.returns-then-kind-ge8
+returns-then-kind-ge8 c = elim c.then-kind-ge8.branch [ then-kind-ge8-via-then-kind-ge8 w ↦ unknown _ _ (search rules) | then-kind-ge8-via-else-kind-ge8+then-b-body_len w ↦ cut _ _ (search rules) (search rules) ]
 
-pub returns-else-body_len-b : goal.returns-else-body_len-b
-returns-else-body_len-b c = cut _ _ (search rules) (search rules)
-
-pub returns-else-kind-lt8 : goal.returns-else-kind-lt8
-returns-else-kind-lt8 c = unknown _ _ c.if-kind-lt8.false
+pub returns : goal.returns
+returns c = whole _ _ (search rules) (search rules) c.read_body.ensures

@@ -7,9 +7,9 @@ use Rattle.tape.specs.Tape.{result_line}
 use Rattle.tape.proofs.Putting.{of_answer}
 use Rattle.tape.proofs.step.result_line.Goals as goal
 
-pub returns-in-One : goal.returns-in-One
+pub returns-in-Some : goal.returns-in-Some
 unfolding result_line
-returns-in-One c = of_answer result_line c.in-One.is (of_answer (λ (w : Float). row 73 (float w ∷ [])) (sym c.result.ensures) c.width_line.ensures)
+returns-in-Some c = of_answer result_line c.in-Some.is (of_answer (λ (w : Float). row 73 (float w ∷ [])) (sym c.result.ensures) c.width_line.ensures)
 
 pub returns-in-None : goal.returns-in-None
 unfolding result_line

@@ -3,10 +3,10 @@ use mathlib.Core.Path.{sym, ap, ◌∙◌}
 use Rattle.tape.specs.Tape.{start_of}
 use Rattle.tape.proofs.step.start_of.Goals as goal
 
-pub returns-in-Known : goal.returns-in-Known
+pub returns-in-Some : goal.returns-in-Some
 unfolding start_of
-returns-in-Known c = c.new.ensures ∙ sym (ap start_of c.in-Known.is)
+returns-in-Some c = c.new.ensures ∙ sym (ap start_of c.in-Some.is)
 
-pub returns-in-Unknown : goal.returns-in-Unknown
+pub returns-in-None : goal.returns-in-None
 unfolding start_of
-returns-in-Unknown c = sym (ap start_of c.in-Unknown.is)
+returns-in-None c = sym (ap start_of c.in-None.is)

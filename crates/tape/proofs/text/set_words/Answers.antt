@@ -14,7 +14,7 @@ pub returns-then-text-lt22 : goal.returns-then-text-lt22
 returns-then-text-lt22 c = passed_on _ (record { sfits = c.told_number-then-text-lt22.type_inv }) (text_cut _ _ c.if-tape-gt65536.false c.stop_of-stop.ensures c.if-stop-tape.false (λ e. omega (arith, c.if-text-lt22.true, e))) c.told_number-then-text-lt22.ensures
 
 pub returns-then-text-n : goal.returns-then-text-n
-returns-then-text-n c = passed_on _ (record { sfits = c.told_number-then-text-n.type_inv }) (text_cut _ _ c.if-tape-gt65536.false c.stop_of-stop.ensures c.if-stop-tape.false (λ e. omega (arith, c.if-text-n.true, c.u16_at-n.ensures.0, e))) c.told_number-then-text-n.ensures
+returns-then-text-n c = passed_on _ (record { sfits = c.told_number-then-text-n.type_inv }) (text_cut _ _ c.if-tape-gt65536.false c.stop_of-stop.ensures c.if-stop-tape.false (λ e. omega (arith, c.if-text-n.true, c.u16_at-n.ensures, e))) c.told_number-then-text-n.ensures
 
 pub returns : goal.returns
-returns c = passed_on _ (record { sfits = c.set_text.type_inv }) (text_whole _ _ c.if-tape-gt65536.false c.stop_of-stop.ensures c.if-stop-tape.false (omega (arith, c.u16_at-n.ensures.0, c.if-text-n.false))) c.set_text.ensures
+returns c = passed_on _ (record { sfits = c.set_text.type_inv }) (text_whole _ _ c.if-tape-gt65536.false c.stop_of-stop.ensures c.if-stop-tape.false (omega (arith, c.u16_at-n.ensures, c.if-text-n.false))) c.set_text.ensures

@@ -1,23 +1,26 @@
 -- `tape::text::told_lines` meets its contract: the lines so far were counted; then those so far were put.
-use Prim.Native.Nat.{zero-le}
 use native.Mathlib.Omega.{arith}
+use borrow.Author.Rules.{rules}
 use Rattle.tape.proofs.Printing.{counted_none, counted_more, printed_none, printed_more, lines_short, lines_put}
 use Rattle.tape.proofs.text.told_lines.Goals as goal
 
-pub loop-i-init : goal.loop-i-init
-loop-i-init c = (zero-le, counted_none _)
+pub loop-l-init : goal.loop-l-init
+loop-l-init c = counted_none _
 
-pub loop-i-preserved : goal.loop-i-preserved
-loop-i-preserved c = (omega (arith, c.loop-i-test.true), counted_more _ _ (omega (arith, c.loop-i-test.true, c.requires.0, c.requires.1)) c.loop-i.invariant.1 c.line_length-need.ensures)
+pub loop-l-preserved : goal.loop-l-preserved
+loop-l-preserved c = counted_more _ _ c.loop-l-test.true c.loop-l.invariant c.line_length-need.ensures
 
 pub returns-then-answers-need : goal.returns-then-answers-need
-returns-then-answers-need c xs h = lines_short c.args.set c.loop-i.invariant.1 (omega (arith, c.loop-i.invariant.0, c.loop-i-test.false)) xs h _ c.if-answers-need.true
+returns-then-answers-need c = lines_short _ c.loop-l.invariant c.loop-l-test.false _ c.if-answers-need.true
 
-pub loop-k-init : goal.loop-k-init
-loop-k-init c = (zero-le, printed_none _ _)
+pub loop-l-2-init : goal.loop-l-2-init
+loop-l-2-init c = printed_none _ _
 
-pub loop-k-preserved : goal.loop-k-preserved
-loop-k-preserved c = (omega (arith, c.loop-k-test.true), printed_more _ _ (omega (arith, c.loop-k-test.true, c.requires.0, c.requires.1)) c.loop-k.invariant.1 c.set_line-to.ensures)
+pub loop-l-2-preserved : goal.loop-l-2-preserved
+loop-l-2-preserved c = printed_more _ _ c.loop-l-2-test.true c.loop-l-2.invariant c.set_line.ensures
 
 pub returns : goal.returns
-returns c xs h = lines_put c.args.set c.loop-i.invariant.1 (omega (arith, c.loop-i.invariant.0, c.loop-i-test.false)) xs h _ c.if-answers-need.false c.loop-k.invariant.1 (omega (arith, c.loop-k.invariant.0, c.loop-k-test.false)) c.requires.0
+returns c =
+    let n = c.new-out.ensures in
+    let same = c.loop-l-2.invariant.puts.same in
+    lines_put _ c.loop-l.invariant c.loop-l-test.false (n.1, n.2) (search rules) c.if-answers-need.false c.loop-l-2.invariant c.loop-l-2-test.false (omega (arith, c.loop-l-2.auto.l-index-end, c.requires))

@@ -1,9 +1,7 @@
-use Rattle.std.proofs.Common.{◌-◌}
-use Rattle.words.proofs.Spans.{Counts}
+use Rattle.std.proofs.Common.{◌≡◌, ◌+◌, drop}
+use Rattle.float.specs.Bands.{first_below}
+use Rattle.words.specs.Laid.{bands_of}
 use Rattle.words.proofs.beside.passed.Given as goal
 
 abbrev pub invariant-loop-i : goal.invariant-loop-i
-invariant-loop-i l = Counts l.bands l.y l.n l.i
-
-abbrev pub decreases-loop-i : goal.decreases-loop-i
-decreases-loop-i l = l.n - l.i
+invariant-loop-i l = first_below (bands_of l.bands) 0 l.y ≡ l.i + first_below (bands_of (drop l.i l.bands)) 0 l.y

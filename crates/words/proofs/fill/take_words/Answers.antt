@@ -1,21 +1,31 @@
 -- `words::fill::take_words` meets its contract: the loop takes what the definition takes.
-use Rattle.std.proofs.Common.{arith}
-use Rattle.words.proofs.Taking.{take_none, take_not, take_first, take_goes, take_stops, take_ends}
+use Rattle.std.proofs.Common.{map, ap, arith}
+use Rattle.float.specs.Numbers.{plus_zero}
+use Rattle.words.specs.Lines.{more}
+use Rattle.std.proofs.Math.ListN.{drop_of_length-le}
+use Rattle.words.proofs.Taking.{take_none, take_not, take_first, more_yes, more_no}
 use Rattle.words.proofs.fill.take_words.Goals as goal
 
-pub returns-then-rest-eq0 : goal.returns-then-rest-eq0
-returns-then-rest-eq0 c = take_none _ _ _ c.args.rest.now c.if-rest-eq0.true
+pub returns-in_default-clause-count : goal.returns-in_default-clause-count
+returns-in_default-clause-count c = take_none _ _ _ _ c.in_default.len_below
 
-pub returns-then-not-first_fits : goal.returns-then-not-first_fits
-returns-then-not-first_fits c = take_not _ _ _ c.args.rest.now (omega arith) c.plus_zero-sum.ensures c.first_fits.ensures c.if-not-first_fits.true
+pub returns-then-not-first_fits-clause-count : goal.returns-then-not-first_fits-clause-count
+returns-then-not-first_fits-clause-count c = take_not _ _ _ _ c.in-len1-up.len_at_least c.plus_zero-sum.ensures c.first_fits.ensures c.if-not-first_fits.true
 
-pub returns-then-not-wider-room : goal.returns-then-not-wider-room
-returns-then-not-wider-room c = take_stops c.loop-n.invariant c.loop-n-test.true _ c.plus_zero.ensures c.if-not-wider-room.true
-    (take_first _ _ _ c.args.rest.now (omega arith) c.plus_zero-sum.ensures c.first_fits.ensures c.if-not-first_fits.false)
+pub returns-then-not-wider-room-clause-count : goal.returns-then-not-wider-room-clause-count
+returns-then-not-wider-room-clause-count c =
+    let t = take_first c.args.e c.args.room c.args.gap c.args.rest.now c.in-len1-up.len_at_least c.plus_zero-sum.ensures c.first_fits.ensures c.if-not-first_fits.false in
+    let u = more_no _ _ c.loop-i-test.true _ _ _ c.plus_zero.ensures c.if-not-wider-room.true in
+    omega (arith, c.loop-i.invariant, t, u)
 
-pub loop-n-preserved : goal.loop-n-preserved
-loop-n-preserved c = take_goes c.loop-n.invariant c.loop-n-test.true _ c.plus_zero.ensures c.if-not-wider-room.false
+pub loop-i-preserved : goal.loop-i-preserved
+loop-i-preserved c =
+    let u = more_yes _ _ c.loop-i-test.true _ _ _ c.plus_zero.ensures c.if-not-wider-room.false in
+    omega (arith, c.loop-i.invariant, u)
 
-pub returns : goal.returns
-returns c = take_ends c.loop-n.invariant c.loop-n-test.false
-    (take_first _ _ _ c.args.rest.now (omega arith) c.plus_zero-sum.ensures c.first_fits.ensures c.if-not-first_fits.false)
+pub returns-clause-count : goal.returns-clause-count
+unfolding more
+returns-clause-count c =
+    let t = take_first c.args.e c.args.room c.args.gap c.args.rest.now c.in-len1-up.len_at_least c.plus_zero-sum.ensures c.first_fits.ensures c.if-not-first_fits.false in
+    let u = ap (λ l. more c.args.room c.args.gap c.loop-i.sum (map plus_zero l)) (drop_of_length-le _ c.loop-i-test.false) in
+    omega (arith, c.loop-i.invariant, t, u)

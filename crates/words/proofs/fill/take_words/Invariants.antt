@@ -1,9 +1,7 @@
-use Rattle.std.proofs.Common.{◌-◌, length}
-use Rattle.words.proofs.Taking.{Takes}
+use Rattle.std.proofs.Common.{◌≡◌, ◌+◌, map, drop}
+use Rattle.float.specs.Numbers.{plus_zero}
+use Rattle.words.specs.Lines.{more}
 use Rattle.words.proofs.fill.take_words.Given as goal
 
-abbrev pub invariant-loop-n : goal.invariant-loop-n
-invariant-loop-n l = Takes l.rest l.room l.gap l.initial.sum l.sum l.n
-
-abbrev pub decreases-loop-n : goal.decreases-loop-n
-decreases-loop-n l = length l.rest - l.n
+abbrev pub invariant-loop-i : goal.invariant-loop-i
+invariant-loop-i l = more l.room l.gap l.initial.sum (map plus_zero l.others) ≡ l.i + more l.room l.gap l.sum (map plus_zero (drop l.i l.others))

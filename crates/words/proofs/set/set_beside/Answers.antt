@@ -1,11 +1,13 @@
--- `words::set::set_beside` meets its contract: the numbers are cleaned and checked, then the lines are set.
-use Rattle.std.proofs.Common.{sym, ap, ◌∙◌}
-use Rattle.words.specs.Lines.{answered}
-use Rattle.words.proofs.Going.{on_passed, on_refused, cleaned_is}
+-- `words::set::set_beside` meets its contract: the lines are set in a place of its own, which is handed back.
+use Rattle.std.proofs.Common.{Err, ap, ◌∙◌}
+use Rattle.std.proofs.lemmas.Result.{err_from_is_err_and}
+use Rattle.words.specs.Lines.{handed}
 use Rattle.words.proofs.set.set_beside.Goals as goal
 
-pub returns-in-Passed : goal.returns-in-Passed
-returns-in-Passed c = c.set_lines.ensures ∙ ap answered (on_passed _ _ _ _ (cleaned_is _ c.plus_zero-g.ensures c.plus_zero-h.ensures c.plus_zero-y.ensures c.plus_zero-l.ensures c.plus_zero-r.ensures) (sym (c.in-Passed.ensures _ c.judge_widths-judged.ensures)))
+pub returns-in_err-set_in : goal.returns-in_err-set_in
+unfolding handed
+returns-in_err-set_in c = let p = err_from_is_err_and c.from_residual.result c.from_residual.ensures.1 in p.1 ∙ ap Err p.2 ∙ c.in_err-set_in.ensures
 
-pub returns-in-Refused : goal.returns-in-Refused
-returns-in-Refused c = c.refused.ensures ∙ ap answered (on_refused _ _ _ _ _ (cleaned_is _ c.plus_zero-g.ensures c.plus_zero-h.ensures c.plus_zero-y.ensures c.plus_zero-l.ensures c.plus_zero-r.ensures) (sym (c.in-Refused.ensures _ c.judge_widths-judged.ensures)))
+pub returns : goal.returns
+unfolding handed
+returns c = c.in_ok-set_in.ensures

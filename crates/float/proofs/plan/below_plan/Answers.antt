@@ -1,6 +1,0 @@
--- `float::plan::below_plan` meets its contract.
-use Rattle.float.proofs.Coded.{below_code}
-use Rattle.float.proofs.plan.below_plan.Goals as goal
-
-pub returns : goal.returns
-returns c = below_code _ _ _ _ _ _ _ c.moved-at.ensures.0 c.larger-y.ensures

@@ -1,6 +1,0 @@
--- `tape::line::put_number` meets its contract: a space, then as many digits as the number has.
-use Rattle.tape.proofs.Putting.{put_decimal}
-use Rattle.tape.proofs.line.put_number.Goals as goal
-
-pub returns : goal.returns
-returns c = put_decimal _ c.put-next.ensures c.count_decimals.ensures c.put_digits.ensures
