@@ -79,8 +79,8 @@ extern "C" {
 
 /* The deepest stack of a call in bytes, its return address counted, and that of bulameki_set_words: measured of the
    archive as rattle-kit-13f compiles it, as docs/SPEED.md says. */
-#define BULAMEKI_STACK 4376
-#define BULAMEKI_WORDS_STACK 26536
+#define BULAMEKI_STACK 4360
+#define BULAMEKI_WORDS_STACK 26488
 
 enum bulameki_kind {
     BULAMEKI_NEW = 0,

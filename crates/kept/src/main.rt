@@ -44,26 +44,54 @@ fn keep() -> Kept
     }
 }
 
-// A write that fails is passed over; so with the next two.
+// Each piece of a line is a write of its own, and one that fails is passed over; so with the next two.
 fn print_placed(rt: &HostRuntime, name: &str, answer: Result<Position, Refusal>) {
-    let _ = match answer {
-        Ok(Position { x, y, steps }) => println!(rt; "{name}: x {x}, y {y}, steps {steps}"),
-        Err(_) => println!(rt; "{name}: refused"),
-    };
+    let _ = print!(rt; "{name}: ");
+    match answer {
+        Ok(Position { x, y, steps }) => {
+            let _ = print!(rt; "x ");
+            let _ = print!(rt; "{x}");
+            let _ = print!(rt; ", y ");
+            let _ = print!(rt; "{y}");
+            let _ = print!(rt; ", steps ");
+            let _ = print!(rt; "{steps}");
+            let _ = print!(rt; "\n");
+        }
+        Err(_) => {
+            let _ = print!(rt; "refused\n");
+        }
+    }
 }
 
 fn print_slot(rt: &HostRuntime, answer: Result<ContentSlot, Refusal>) {
-    let _ = match answer {
-        Ok(ContentSlot { x, y, width, .. }) => println!(rt; "content: x {x}, y {y}, width {width}"),
-        Err(_) => println!(rt; "content: refused"),
-    };
+    match answer {
+        Ok(ContentSlot { x, y, width, .. }) => {
+            let _ = print!(rt; "content: x ");
+            let _ = print!(rt; "{x}");
+            let _ = print!(rt; ", y ");
+            let _ = print!(rt; "{y}");
+            let _ = print!(rt; ", width ");
+            let _ = print!(rt; "{width}");
+            let _ = print!(rt; "\n");
+        }
+        Err(_) => {
+            let _ = print!(rt; "content: refused\n");
+        }
+    }
 }
 
 fn print_bottom(rt: &HostRuntime, name: &str, bottom: Option<f32>) {
-    let _ = match bottom {
-        Some(y) => println!(rt; "{name}: y {y}"),
-        None => println!(rt; "{name}: none"),
-    };
+    let _ = print!(rt; "{name}: ");
+    match bottom {
+        Some(y) => {
+            let _ = print!(rt; "y ");
+            let _ = print!(rt; "{y}");
+            let _ = print!(rt; "\n");
+        }
+        None => {
+            let _ = print!(rt; "none\n");
+        }
+    }
 }
 
 fn main(rt: HostRuntime) {
@@ -80,7 +108,7 @@ fn main(rt: HostRuntime) {
     match page.cleared_threshold(RIGHTS) {
         Ok(bottom) => print_bottom(&rt, "below the right box", bottom),
         Err(_) => {
-            let _ = println!(rt; "below the right box: refused");
+            let _ = print!(rt; "below the right box: refused\n");
         }
     }
     print_bottom(&rt, "depth", page.depth());

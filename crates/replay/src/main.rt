@@ -74,22 +74,29 @@ fn replay<R: Read>(from: &mut R) -> Result<bool, NoPart> {
     Ok(agrees(&tape[..n], &lines[..k], &mut room))
 }
 
-// Nothing says that an input ends, so the turns are counted down from a number that no run uses up. A write that fails is passed over.
+// Nothing says that an input ends, so the turns are counted down from a number that no run uses up. Each piece of a line is a write of its own, and one that fails is passed over.
 fn main(rt: HostRuntime) {
     let mut differ: u64 = 0;
     for tapes in 0..u64::MAX {
         match replay(&mut rt.stdin()) {
             Ok(true) => {}
             Ok(false) => {
-                let _ = println!(rt; "tape {tapes} differs");
+                let _ = print!(rt; "tape ");
+                let _ = print!(rt; "{tapes}");
+                let _ = print!(rt; " differs\n");
                 differ = differ.wrapping_add(1);
             }
             Err(NoPart::Cut) => {
-                let _ = println!(rt; "tape {tapes} breaks off");
+                let _ = print!(rt; "tape ");
+                let _ = print!(rt; "{tapes}");
+                let _ = print!(rt; " breaks off\n");
                 return;
             }
             Err(NoPart::End) => {
-                let _ = println!(rt; "{tapes} tapes, {differ} differ");
+                let _ = print!(rt; "{tapes}");
+                let _ = print!(rt; " tapes, ");
+                let _ = print!(rt; "{differ}");
+                let _ = print!(rt; " differ\n");
                 return;
             }
         }

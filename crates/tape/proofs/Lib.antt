@@ -12,3 +12,4 @@ pub mod Stopping
 pub mod Texts
 pub mod Printing
 pub mod AfterText
+pub mod Blank

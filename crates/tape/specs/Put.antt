@@ -1,5 +1,7 @@
 -- Bytes put into the room where they are to stand, and the run of a tape. No promise to a reader names them. Definitions only.
 use Rattle.std.specs.Prelude.{ℕ, ◌+◌, ◌*◌, min, ◌≤◌, ◌<◌, ◌⊎◌, ◌≡◌, List, [], ◌∷◌, ◌++◌, length, take, drop}
+use Rattle.float.specs.declared.FloatContext.{FloatContext}
+use Rattle.float.specs.Page.{page_of, stored, fresh_context}
 use Rattle.tape.specs.declared.line.Out.{Out}
 use Rattle.tape.specs.declared.step.State.{State}
 use Rattle.tape.specs.Bytes.{decimal, row}
@@ -51,3 +53,7 @@ pub record Stops (t : List ℕ) (r : ℕ) : Type 0 where
 -- the room a takes the lines of the tape t: they are known to fit, or there are eleven bytes for each byte of the tape
 abbrev pub Roomy : List ℕ → List ℕ → Type 0
 Roomy t a = (length (lines_of t) ≤ length a) ⊎ (11 * length t ≤ length a)
+
+-- the places of a page's arrays past its counts stand as in a fresh page: it is what it holds, stored in one
+abbrev pub Blank : FloatContext → Type 0
+Blank p = p ≡ stored (page_of p) fresh_context

@@ -1,6 +1,6 @@
 // The run of a tape, record by record.
 ghost use Rattle.std.specs.Prelude.{◌≡◌, ◌≤◌, length};
-ghost use Rattle.tape.specs.Put.{Answered, Runs};
+ghost use Rattle.tape.specs.Put.{Answered, Blank, Runs};
 ghost use Rattle.tape.specs.Tape.{fresh_state, page_after};
 
 use crate::line::Out;
@@ -10,7 +10,7 @@ use crate::step::State;
 impl State {
     // Counts the bytes of the lines of a tape, and writes them where the room holds them. A broken record ends the tape.
     pub fn run(&mut self, tape: &[u8], answers: &mut [u8]) -> usize
-        requires { length tape.now ≤ 65536 }
+        requires { (length tape.now ≤ 65536) × Blank self.old.page }
         ensures { Runs tape.now self.old answers.old answers.new self.new result }
     {
         let mut out = Out::new(answers);
@@ -29,6 +29,7 @@ impl State {
 
     // The run of a tape whose lines are not asked for: over 65,536 bytes none is run.
     pub fn follow(&mut self, tape: &[u8])
+        requires { Blank self.old.page }
         ensures { self.old ≡ fresh_state → self.new.page ≡ page_after tape.now }
     {
         if tape.len() <= 65536 {

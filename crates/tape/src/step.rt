@@ -1,12 +1,15 @@
 // What a run keeps between two records, and what a record does to it: the line that it prints is put out.
-ghost use Rattle.std.specs.Prelude.{◌≡◌, ◌+◌, ◌≤◌};
+ghost use Rattle.std.specs.Prelude.{◌≡◌, ◌+◌, ◌≤◌, take};
 ghost use Rattle.float.specs.Calculator.{add_check};
-ghost use Rattle.tape.specs.Put.{Line, Tells, reach};
+ghost use Rattle.float.specs.Page.{front, fresh_context};
+ghost use Rattle.tape.specs.Put.{Blank, Line, Tells, reach};
 ghost use Rattle.tape.specs.Tape.{fresh_state, start_of, not_added, result_line, step_of};
 
 use crate::line::Out;
 use crate::record::Record;
-use float::{AvailableSpace, FloatContext, FloatIntrinsicWidthCalculator, Refusal};
+use float::{
+    AvailableSpace, FloatContext, FloatIntrinsicWidthCalculator, PlacedFloatedBox, Refusal, Segment,
+};
 
 #[derive(Clone, Copy)]
 pub struct State {
@@ -47,6 +50,22 @@ fn result_line(calculator: Option<FloatIntrinsicWidthCalculator>, out: &mut Out)
     }
 }
 
+// The bands of a fresh page: those past the count stand so already.
+fn blank_bands(bands: &mut [Segment; 96], count: usize)
+    requires { bands.old ≡ front (take count bands.old) fresh_context.bands }
+    ensures { bands.new ≡ fresh_context.bands }
+{
+    bands[..count.min(96)].fill(Segment::default());
+}
+
+// And its boxes.
+fn blank_boxes(boxes: &mut [PlacedFloatedBox; 64], count: usize)
+    requires { boxes.old ≡ front (take count boxes.old) fresh_context.boxes }
+    ensures { boxes.new ≡ fresh_context.boxes }
+{
+    boxes[..count.min(64)].fill(PlacedFloatedBox::default());
+}
+
 impl State {
     // A fresh page, no calculator.
     pub fn new() -> Self
@@ -58,14 +77,33 @@ impl State {
         }
     }
 
+    // A fresh state where this one lies.
+    fn renew(&mut self)
+        requires { Blank self.old.page }
+        ensures { self.new ≡ fresh_state }
+    {
+        blank_bands(&mut self.page.bands, self.page.count);
+        blank_boxes(&mut self.page.boxes, self.page.box_count);
+        self.page.width = 0.0;
+        self.page.count = 0;
+        self.page.box_count = 0;
+        self.page.left_bottom = None;
+        self.page.right_bottom = None;
+        self.page.ceiling = None;
+        self.page.depth = None;
+        self.page.left_first = 0;
+        self.page.right_first = 0;
+        self.calculator = None;
+    }
+
     // What a record does, and its line.
     pub fn step(&mut self, call: Record, out: &mut Out)
-        requires { out.old.at + 64 ≤ reach }
+        requires { (out.old.at + 64 ≤ reach) × Blank self.old.page }
         ensures { Tells (step_of self.old call) self.new out.old out.new }
     {
         match call {
             Record::Fresh => {
-                *self = State::new();
+                self.renew();
                 out.letter_line(b'N');
             }
             Record::Width(w) => {

@@ -164,7 +164,8 @@ fn refused_text(text: &[u8], n: usize) -> TextRefusal
     }
 }
 
-// A text of n words, whole, on the page after a tape that does not stop.
+// A text of n words, whole, on the page after a tape that does not stop. Kept out of line: what is told at once need not make room on the stack for a page and a text.
+#[inline(never)]
 fn set_text(tape: &[u8], text: &[u8], n: usize, answers: &mut [u8]) -> i64
     requires { (n < 65536) × (n ≡ u16_at text.now 0) × (length text.now ≡ 22 + 4 * n) }
     ensures { (result ≡ returned (told_lines (set_words (page_of (page_after tape.now)) (text_of text.now))) answers.old) × (answers.new ≡ filled (told_lines (set_words (page_of (page_after tape.now)) (text_of text.now))) answers.old) }

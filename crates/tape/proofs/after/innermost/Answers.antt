@@ -7,6 +7,7 @@ use Rattle.float.specs.declared.FloatContext.{FloatContext}
 use Rattle.float.specs.Page.{page_of}
 use Rattle.float.specs.Slot.{innermost}
 use Rattle.tape.specs.Tape.{returned_box, innermost_after}
+use Rattle.tape.proofs.Blank.{blank_new}
 use Rattle.tape.proofs.after.innermost.Goals as goal
 
 pub returns : goal.returns
@@ -16,3 +17,6 @@ returns c =
     to_z-of_z w64 c.returned_box.result (record { sfits = c.returned_box.type_inv })
     ∙ c.returned_box.ensures
     ∙ ap returned_box (c.innermost.ensures ∙ ap (λ (p : FloatContext). innermost (page_of p) (Some a.band) a.side) (c.follow.ensures c.new-state.ensures))
+
+pub follow-requires : goal.follow-requires
+follow-requires c = blank_new c.new-state.ensures

@@ -1,5 +1,6 @@
 -- `tape::run::lines` meets its contract: a tape that is too long has the one line L, any other those of its run from a fresh state.
 use borrow.Author.Rules.{rules}
+use Rattle.tape.proofs.Blank.{blank_new}
 use Rattle.tape.proofs.Going.{run_answered}
 use Rattle.tape.proofs.Room.{over_answered}
 use Rattle.tape.proofs.run.lines.Goals as goal
@@ -12,3 +13,6 @@ returns-then-tape-gt65536 c =
 
 pub returns : goal.returns
 returns c = run_answered _ _ c.new.ensures c.if-tape-gt65536.false c.run.ensures
+
+pub run-requires : goal.run-requires
+run-requires c = (c.if-tape-gt65536.false, blank_new c.new.ensures)

@@ -1,4 +1,5 @@
 -- `tape::text::set_text` meets its contract: what is set beside the page that the run leaves is set on the page after the tape.
+use Rattle.tape.proofs.Blank.{blank_new}
 use Rattle.tape.proofs.AfterText.{check_row, refusal_row, lines_row}
 use Rattle.tape.proofs.Room.{passed_on}
 use Rattle.tape.proofs.text.set_text.Goals as goal
@@ -18,3 +19,6 @@ pub returns-in-Err : goal.returns-in-Err
 returns-in-Err c =
     passed_on _ (record { sfits = c.told_number-in-Err.type_inv })
     (refusal_row _ _ c.requires.1 c.figures_at-f.ensures c.read_widths.ensures (c.follow.ensures c.new-state.ensures) c.set_words-set.ensures _ c.in-Err.is c.text_number_of-in-Err.ensures) c.told_number-in-Err.ensures
+
+pub follow-requires : goal.follow-requires
+follow-requires c = blank_new c.new-state.ensures

@@ -7,3 +7,6 @@ returns-then-tape-le65536 c = page_followed _ c.if-tape-le65536.true c.run.ensur
 
 pub returns-else-tape-le65536 : goal.returns-else-tape-le65536
 returns-else-tape-le65536 c = page_left _ c.if-tape-le65536.false
+
+pub run-requires : goal.run-requires
+run-requires c = (c.if-tape-le65536.true, c.requires)

@@ -13,7 +13,7 @@ use Rattle.tape.proofs.step.State.step.Goals as goal
 
 pub returns-in-Fresh : goal.returns-in-Fresh
 unfolding step_of
-returns-in-Fresh c = of_known (step_of c.args.self.now) c.in-Fresh.is (record { after = c.new.ensures; line = c.letter_line.ensures })
+returns-in-Fresh c = of_known (step_of c.args.self.now) c.in-Fresh.is (record { after = c.renew.ensures; line = c.letter_line.ensures })
 
 pub returns-in-Width : goal.returns-in-Width
 unfolding step_of
